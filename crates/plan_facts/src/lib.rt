@@ -1,0 +1,14 @@
+//! Facts: lists and texts, the schema of a domain, the plan of a problem, and numbered names.
+#![tactic(auto)]
+
+mod list;
+mod memory;
+mod record;
+mod text;
+
+pub use list::List;
+pub use memory::Memory;
+pub use record::{
+    ClassDef, FieldDef, Kind, Raw, Rec, Value, VarDef, copy_planned, same_numbers, same_planned,
+};
+pub use text::Text;

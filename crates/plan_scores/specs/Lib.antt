@@ -1,0 +1,4 @@
+pub mod Order
+pub mod Sum
+pub mod Text
+pub mod Total

@@ -1,0 +1,77 @@
+use crate::{Level, PlanScore, Score};
+use std::test::Fail;
+
+fn score(hard: i64, medium: i64, soft: i64) -> Score {
+    Score { hard, medium, soft }
+}
+
+fn plan_score(unplaced: u32, score: Score) -> PlanScore {
+    PlanScore { unplaced, score }
+}
+
+#[test]
+fn text_has_three_numbers_behind_the_null_variables(rt: HostRuntime) -> Result<(), Fail> {
+    let cases = [
+        (0, score(0, 0, 0), "0hard/0medium/0soft"),
+        (0, score(-1, 0, 0), "-1hard/0medium/0soft"),
+        (0, score(0, -1, -1), "0hard/-1medium/-1soft"),
+        (0, score(0, 0, 12), "0hard/0medium/12soft"),
+        (2, score(-30, 0, 0), "-2init/-30hard/0medium/0soft"),
+        (
+            u32::MAX,
+            score(i64::MIN, i64::MAX, 0),
+            "-4294967295init/-9223372036854775808hard/9223372036854775807medium/0soft",
+        ),
+    ];
+    for (unplaced, score, text) in cases {
+        let mut out = Vec::from_slice(rt.alloc(), b"> ")?;
+        plan_score(unplaced, score).write_text(&mut out)?;
+        assert!(rt;
+            out.as_slice().strip_prefix(b"> ".as_slice()) == Some(text.as_bytes()),
+            "at {text}"
+        );
+    }
+    let mut out = Vec::new(rt.alloc());
+    score(-1, 0, 0).write_text(&mut out)?;
+    assert_eq!(rt; out.as_slice(), b"-1hard/0medium/0soft".as_slice());
+    Ok(())
+}
+
+#[test]
+fn null_variables_count_first_then_hard_medium_and_soft_numbers(rt: HostRuntime) {
+    let rising = [
+        plan_score(2, score(9, 9, 9)),
+        plan_score(1, score(-2, 0, 0)),
+        plan_score(1, score(-1, -9, 9)),
+        plan_score(1, score(-1, 0, -1)),
+        plan_score(1, score(-1, 0, 0)),
+        plan_score(0, score(-5, 0, 0)),
+        plan_score(0, score(0, 0, 0)),
+    ];
+    for i in 0..rising.len() {
+        for j in 0..rising.len() {
+            let (a, b) = (rising[i], rising[j]);
+            assert!(rt; (a < b) == (i < j), "at {i} and {j}");
+            assert!(rt; (a >= b) == (i >= j), "at {i} and {j}");
+            assert!(rt; (a == b) == (i == j), "at {i} and {j}");
+            if a.unplaced == b.unplaced {
+                assert!(rt; (a.score > b.score) == (i > j), "at {i} and {j}");
+            }
+        }
+    }
+}
+
+#[test]
+fn what_was_added_can_be_taken_away(rt: HostRuntime) {
+    let sum = Score::at(Level::Hard, -7).add(&Score::at(Level::Soft, 4));
+    assert_eq!(rt; sum, score(-7, 0, 4));
+    assert_eq!(rt;
+        sum.minus(&Score::at(Level::Soft, 4)),
+        Score::at(Level::Hard, -7)
+    );
+    assert_eq!(rt;
+        Score::zero().minus(&Score::at(Level::Medium, 3)),
+        score(0, -3, 0)
+    );
+    assert_eq!(rt; Score::zero(), score(0, 0, 0));
+}

@@ -1,5 +1,9 @@
--- Lists are told apart by their members.
-use Rattle.std.proofs.Common.{◌≡◌, ℕ, suc, ◌<◌, List, [], ◌∷◌, Some, slice_get, length, refl, arith}
+-- Lists are told apart by their members, and read from a place on.
+use Rattle.std.proofs.Common.{◌≡◌, ◌∙◌, ℕ, suc, ◌+◌, ◌<◌, List, [], ◌∷◌, Option, Some, None, drop, slice_get, length, refl, ap, sym, arith}
+use Rattle.std.proofs.lemmas.List.{drop_more}
+use Rattle.std.proofs.lemmas.Option.{slice_get_within, get_or_from_slice_get}
+use Rattle.std.specs.Prelude.{All, IfSome, option_copied}
+use denote.Ref.{Bor}
 
 some_same : {A : Type 0} {x y : A} → Some x ≡ Some y → x ≡ y
 some_same e = cc
@@ -10,3 +14,14 @@ same_lists [] [] e h = refl
 same_lists [] (y ∷ ys) e h = absurd (omega arith)
 same_lists (x ∷ xs) [] e h = absurd (omega arith)
 same_lists (x ∷ xs) (y ∷ ys) e h = λ i. some_same (h 0 (omega arith)) i ∷ same_lists xs ys (omega arith) (λ k lt. h (suc k) (omega arith)) i
+
+-- what is left of a list from a place on begins with the member at that place
+pub drop-member : {A : Type 0} (xs : List A) (k : ℕ) (x : A) → slice_get xs k ≡ Some x → drop k xs ≡ x ∷ drop (k + 1) xs
+drop-member xs k x at = drop_more xs k x (slice_get_within xs k x at) ∙ ap (λ y. y ∷ drop (k + 1) xs) (get_or_from_slice_get xs k x x at)
+
+-- what holds of every member holds of the one that is given
+pub IfSome-member : {A : Type 0} (P : A → Type 0) (xs : List A) (k : ℕ) (r : Option (Bor A)) → option_copied r ≡ slice_get xs k → All P xs → IfSome r (λ x. P x.now)
+IfSome-member P xs k None at all = tt
+IfSome-member P xs k (Some x) at all =
+    let is : slice_get xs k ≡ Some x.now = sym at in
+    rw (get_or_from_slice_get xs k x.now x.now is) at (all k x.now (slice_get_within xs k x.now is))

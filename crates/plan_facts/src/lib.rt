@@ -3,12 +3,16 @@
 
 mod list;
 mod memory;
+mod names_of_class;
 mod record;
+mod schema;
 mod text;
 
 pub use list::List;
 pub use memory::Memory;
+pub use names_of_class::is_name;
 pub use record::{
     ClassDef, FieldDef, Kind, Raw, Rec, Value, VarDef, copy_planned, same_numbers, same_planned,
 };
+pub use schema::{Schema, SchemaFault};
 pub use text::Text;

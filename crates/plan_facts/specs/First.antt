@@ -1,0 +1,8 @@
+-- The first fault of a list, each member being judged with those before it.
+use Rattle.std.specs.Prelude.{List, [], ◌∷◌, ◌++◌, Option, None}
+use Rattle.std.specs.Option.{option_or}
+
+-- the first fault among the members of the second list; the first list has the members that stand before them
+abbrev pub first_fault : {A F : Type 0} → (List A → A → Option F) → List A → List A → Option F
+first_fault fault_of earlier [] = None
+first_fault fault_of earlier (x ∷ rest) = option_or (fault_of earlier x) (first_fault fault_of (earlier ++ x ∷ []) rest)

@@ -1,2 +1,4 @@
 pub mod First
 pub mod Schema
+pub mod Plan
+pub mod PlanChanges

@@ -4,13 +4,16 @@
 mod list;
 mod memory;
 mod names_of_class;
+mod plan;
 mod record;
 mod schema;
+mod table;
 mod text;
 
 pub use list::List;
 pub use memory::Memory;
 pub use names_of_class::is_name;
+pub use plan::Plan;
 pub use record::{
     ClassDef, FieldDef, Kind, Raw, Rec, Value, VarDef, copy_planned, same_numbers, same_planned,
 };

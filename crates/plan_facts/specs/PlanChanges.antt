@@ -1,0 +1,53 @@
+-- The plans that the calls of a plan lead to.
+use Rattle.std.specs.Prelude.{◌==◌, ◌+◌, ◌&&◌, not, ℕ, ℤ, Option, Some, None, List, [], ◌∷◌, ◌++◌, map, filter, zip, if◌then◌else◌, slice_set}
+use Rattle.plan_facts.specs.declared.record.Raw.{Raw}
+use Rattle.plan_facts.specs.Plan.{PlanView, ClassView, class_of, next_id_of}
+
+-- a plan with another class at this number
+abbrev pub with_class : PlanView → ℕ → ClassView → PlanView
+with_class plan class view = record plan { classes = slice_set plan.classes class view }
+
+-- a class with its record of this id changed
+abbrev pub with_record : ClassView → ℕ → (Raw → Raw) → ClassView
+with_record class id change = record class { facts = map (λ raw. if raw.id == id then change raw else raw) class.facts }
+
+-- a plan with one variable of one record set
+unfoldable pub with_value : PlanView → ℕ → ℕ → ℕ → Option ℕ → PlanView
+with_value plan class id var value =
+    with_class plan class (with_record (class_of plan class) id (λ raw. record raw { values = slice_set raw.values var value }))
+
+-- a plan with one field of one record set
+unfoldable pub with_field : PlanView → ℕ → ℕ → ℕ → ℤ → PlanView
+with_field plan class id field number =
+    with_class plan class (with_record (class_of plan class) id (λ raw. record raw { fields = slice_set raw.fields field number }))
+
+-- a plan with one more fact, under the class's next id
+unfoldable pub with_fact : PlanView → ℕ → List ℤ → List (Option ℕ) → PlanView
+with_fact plan class fields values =
+    let id = next_id_of plan class in
+    let raw : Raw = record { id = id; fields = fields; values = values } in
+    let old = class_of plan class in
+    record {
+      classes = slice_set plan.classes class (record old { facts = old.facts ++ raw ∷ []; greatest = id });
+      made = plan.made + 1;
+    }
+
+-- a variable's value once a fact is gone: null where it held that fact
+abbrev pub let_go : ℕ → ℕ → ℕ → Option ℕ → Option ℕ
+let_go class id range None = None
+let_go class id range (Some held) = if (range == class) && (held == id) then None else Some held
+
+-- a record whose variables, with these value classes, have let a fact go
+abbrev pub record_let_go : ℕ → ℕ → List ℕ → Raw → Raw
+record_let_go class id ranges raw = record raw { values = map (λ pair. let_go class id pair.0 pair.1) (zip ranges raw.values) }
+
+-- a class whose records have let a fact go
+abbrev pub class_let_go : ℕ → ℕ → ClassView → ClassView
+class_let_go class id view = record view { facts = map (record_let_go class id view.ranges) view.facts }
+
+-- a plan without one fact: its record is gone, and each variable that held it is null
+unfoldable pub without_fact : PlanView → ℕ → ℕ → PlanView
+without_fact plan class id =
+    let old = class_of plan class in
+    let rest = slice_set plan.classes class (record old { facts = filter (λ raw. not (raw.id == id)) old.facts }) in
+    record plan { classes = map (class_let_go class id) rest }

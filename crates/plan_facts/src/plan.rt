@@ -1,0 +1,197 @@
+ghost use Rattle.std.specs.Prelude.{◌≡◌, ◌<◌, IsTrue, is_none, if◌then◌else◌, IsSomeAnd, IfOk, MatchOption, List, length, map, zip, option_copied};
+ghost use Rattle.plan_facts.specs.Plan.{class_of, no_class, fact_of, ids_of, next_id_of, unplaced_of, record_of, resolved, held_value, range_of, is_value_of, IsPlan, IsClassOf, IsFieldNumber};
+ghost use Rattle.plan_facts.specs.PlanChanges.{with_value, with_field};
+
+use crate::list::List;
+use crate::memory::Memory;
+use crate::record::{Raw, Rec, Value};
+use crate::table::Table;
+use std::alloc::Global;
+use std::marker::Model;
+
+/// A plan: for each class its live facts, each with its fields and the values of its variables.
+#[derive(Drop)]
+pub struct Plan {
+    alloc: Global,
+    tables: Vec<Table>,
+    made: u32,
+    unplaced: u32,
+}
+
+impl Model for Plan {
+    ghost use Rattle.std.specs.Prelude.{◌≡◌};
+    ghost use Rattle.plan_facts.specs.Plan.{PlanView, plan_with, unplaced_of, IsPlan};
+
+    ghost Value = { PlanView };
+
+    ghost view = { λ plan. plan_with plan.tables.items plan.made };
+
+    ghost invariant = { λ plan. IsPlan (plan_with plan.tables.items plan.made) × (plan.unplaced ≡ unplaced_of (plan_with plan.tables.items plan.made)) };
+}
+
+/// 1 where the value is null, else 0.
+fn null_count(value: Option<u32>) -> u32
+    ensures { result ≡ (if is_none value then 1 else 0) }
+{
+    match value {
+        Some(_) => 0,
+        None => 1,
+    }
+}
+
+impl Plan {
+    /// The records of a class; none where there is no such class.
+    fn table(&self, class: u8) -> Option<&Table>
+        ensures sound { IsPlan self.now }
+        ensures table { MatchOption result (class_of self.now class ≡ no_class) (λ table. (table.now ≡ class_of self.now class) × IsClassOf self.now table.now) }
+    {
+        self.tables.get(class as usize)
+    }
+
+    /// The ids of the live facts of a class, increasing; none where there is no such class.
+    pub fn ids(&self, class: u8) -> &[u32]
+        ensures ids { result.now ≡ ids_of self.now class }
+        ensures sound { IsPlan self.now }
+    {
+        match self.table(class) {
+            Some(table) => table.ids(),
+            None => &[],
+        }
+    }
+
+    /// The live fact of a class with this id, as it is kept; none where there is none.
+    pub fn raw(&self, class: u8, id: u32) -> Option<&Raw>
+        ensures fact { option_copied result ≡ fact_of self.now class id }
+        ensures sound { IsPlan self.now }
+    {
+        match self.table(class) {
+            Some(table) => table.get(id),
+            None => None,
+        }
+    }
+
+    /// How many facts were ever made, at most 20,000.
+    pub fn made(&self) -> u32
+        ensures made { result ≡ self.now.made }
+        ensures sound { IsPlan self.now }
+    {
+        self.made
+    }
+
+    /// The id that the next fact of a class gets: the greatest one ever used in it plus 1.
+    pub fn next_id(&self, class: u8) -> u32
+        ensures id { result ≡ next_id_of self.now class }
+        ensures sound { IsPlan self.now }
+    {
+        match self.table(class) {
+            Some(table) => table.greatest() + 1,
+            None => 1,
+        }
+    }
+
+    /// How many variables of all entities are null.
+    pub fn unplaced(&self) -> u32
+        ensures unplaced { result ≡ unplaced_of self.now }
+        ensures sound { IsPlan self.now }
+    {
+        self.unplaced
+    }
+
+    /// What a variable holds, with the fields of the fact.
+    fn held(&self, range: u8, value: Option<u32>) -> Result<Option<Value>, Memory>
+        ensures { IfOk result (λ held. held ≡ held_value self.now range value) }
+    {
+        let Some(id) = value else {
+            return Ok(None);
+        };
+        match self.raw(range, id) {
+            Some(raw) => Ok(Some(Value {
+                id: raw.id,
+                fields: raw.fields.copy(self.alloc)?,
+            })),
+            None => Ok(None),
+        }
+    }
+
+    /// What the variables with these value classes hold.
+    fn planned(&self, ranges: &[u8], values: &[Option<u32>]) -> Result<List<Option<Value>>, Memory>
+        requires { length values.now ≡ length ranges.now }
+        ensures { IfOk result (λ planned. planned ≡ map (λ pair. held_value self.now pair.0 pair.1) (zip ranges.now values.now)) }
+    {
+        let mut planned = List::new(self.alloc);
+        for var in 0..ranges.len() {
+            let held = self.held(ranges[var], values[var])?;
+            planned.push(held)?;
+        }
+        Ok(planned)
+    }
+
+    /// A record with the whole value of each of its variables.
+    fn resolved(&self, class: u8, ranges: &[u8], raw: &Raw) -> Result<Rec, Memory>
+        requires ranges { ranges.now ≡ (class_of self.now class).ranges }
+        requires values { length raw.now.values ≡ length ranges.now }
+        ensures { IfOk result (λ rec. rec ≡ resolved self.now class raw.now) }
+    {
+        Ok(Rec {
+            class,
+            id: raw.id,
+            fields: raw.fields.copy(self.alloc)?,
+            planned: self.planned(ranges, raw.values.as_slice())?,
+        })
+    }
+
+    /// The live fact of a class with this id, with the whole value of each of its variables; none where there is none.
+    #[tactic(auto, unfolding(crate::specs::Plan::record_of))]
+    pub fn resolve(&self, class: u8, id: u32) -> Result<Option<Rec>, Memory>
+        ensures fact { IfOk result (λ fact. fact ≡ record_of self.now class id) }
+        ensures sound { IsPlan self.now }
+    {
+        let Some(table) = self.table(class) else {
+            return Ok(None);
+        };
+        match table.get(id) {
+            Some(raw) => Ok(Some(self.resolved(class, table.ranges(), raw)?)),
+            None => Ok(None),
+        }
+    }
+
+    /// Sets one variable of an entity: to null, or to a live fact of its value class.
+    pub fn set(&mut self, class: u8, id: u32, var: u8, value: Option<u32>)
+        requires there { IsSomeAnd (fact_of self.old class id) (λ raw. var < length raw.values) }
+        requires value { IsTrue (is_value_of self.old (range_of self.old class var) value) }
+        ensures now { self.new ≡ with_value self.old class id var value }
+        ensures sound { IsPlan self.new }
+    {
+        let table = &mut self.tables[class as usize];
+        let held = table.set(id, var as usize, value);
+        self.unplaced = self.unplaced + null_count(value) - null_count(held);
+    }
+
+    /// Sets one field of a fact to a number from -10^9 to 10^9.
+    pub fn set_field(&mut self, class: u8, id: u32, field: u8, number: i64)
+        requires there { IsSomeAnd (fact_of self.old class id) (λ raw. field < length raw.fields) }
+        requires number { IsFieldNumber number }
+        ensures now { self.new ≡ with_field self.old class id field number }
+        ensures sound { IsPlan self.new }
+    {
+        let table = &mut self.tables[class as usize];
+        table.set_field(id, field as usize, number);
+    }
+
+    /// A copy of the plan.
+    pub fn copy(&self) -> Result<Plan, Memory>
+        ensures copy { IfOk result (λ copy. copy ≡ self.now) }
+        ensures sound { IfOk result IsPlan }
+    {
+        let mut tables = Vec::new(self.alloc);
+        for table in &self.tables {
+            tables.push(table.copy()?)?;
+        }
+        Ok(Plan {
+            alloc: self.alloc,
+            tables,
+            made: self.made,
+            unplaced: self.unplaced,
+        })
+    }
+}

@@ -1,0 +1,161 @@
+ghost use Rattle.std.specs.Prelude.{◌≡◌, ◌≢◌, ◌<◌, ◌+◌, ℕ, List, ◌∷◌, [], ◌++◌, length, None, Some, MatchOption, IsSomeAnd, All, slice_index, slice_index_or, slice_set, option_copied, filter, not, ◌==◌, IfOk, OnOk, OnErr};
+ghost use Rattle.plan_facts.specs.Plan.{record_with_id, ids_in, AreIncreasing, IsPlaceOf};
+ghost use Rattle.plan_facts.specs.PlanChanges.{with_record};
+
+use crate::list::List;
+use crate::memory::Memory;
+use crate::record::Raw;
+use std::alloc::Global;
+use std::marker::Model;
+
+/// The live records of one class, found by their ids.
+#[derive(Drop)]
+pub struct Table {
+    fields: usize,
+    ranges: List<u8>,
+    ids: Vec<u32>,
+    facts: Vec<Raw>,
+    greatest: u32,
+}
+
+impl Model for Table {
+    ghost use Rattle.std.specs.Prelude.{◌≡◌};
+    ghost use Rattle.plan_facts.specs.Plan.{ClassView, ids_in};
+
+    ghost Value = { ClassView };
+
+    ghost view = { λ table. record { fields = table.fields; ranges = table.ranges; facts = table.facts.items; greatest = table.greatest } };
+
+    ghost invariant = { λ table. table.ids.items ≡ ids_in table.facts.items };
+}
+
+/// The place of an id among increasing ids; none where it isn't there. Ids that run from 1 without a gap are found at
+/// once.
+fn place_of(ids: &[u32], id: u32) -> Option<usize>
+    requires { AreIncreasing ids.now }
+    ensures { MatchOption result (All (λ other. other ≢ id) ids.now) (λ place. (place < length ids.now) × (slice_index ids.now place ≡ id)) }
+{
+    let guess = (id as usize).saturating_sub(1);
+    if guess < ids.len() && ids[guess] == id {
+        return Some(guess);
+    }
+    match ids.binary_search(&id) {
+        Ok(place) => Some(place),
+        Err(_) => None,
+    }
+}
+
+/// Sets one variable of a record, and gives what it held.
+fn set_value(raw: &mut Raw, var: usize, value: Option<u32>) -> Option<u32>
+    requires { var < length raw.old.values }
+    ensures held { result ≡ slice_index_or raw.old.values var result }
+    ensures now { raw.new ≡ record raw.old { values = slice_set raw.old.values var value } }
+{
+    std::mem::replace(&mut raw.values.as_mut_slice()[var], value)
+}
+
+/// Sets one field of a record.
+fn set_number(raw: &mut Raw, field: usize, number: i64)
+    requires { field < length raw.old.fields }
+    ensures { raw.new ≡ record raw.old { fields = slice_set raw.old.fields field number } }
+{
+    raw.fields.as_mut_slice()[field] = number;
+}
+
+impl Table {
+    /// How many fields a record of the class has.
+    pub fn fields(&self) -> usize
+        ensures { result ≡ self.now.fields }
+    {
+        self.fields
+    }
+
+    /// The value class of each variable of the class.
+    pub fn ranges(&self) -> &[u8]
+        ensures { result.now ≡ self.now.ranges }
+    {
+        self.ranges.as_slice()
+    }
+
+    /// The ids of the live records, increasing.
+    pub fn ids(&self) -> &[u32]
+        ensures { result.now ≡ ids_in self.now.facts }
+    {
+        &self.ids
+    }
+
+    /// The greatest id ever used, 0 where none was.
+    pub fn greatest(&self) -> u32
+        ensures { result ≡ self.now.greatest }
+    {
+        self.greatest
+    }
+
+    /// The place of the live record with this id.
+    fn place(&self, id: u32) -> Option<usize>
+        requires { AreIncreasing (ids_in self.now.facts) }
+        ensures { MatchOption result (record_with_id id self.now.facts ≡ None) (IsPlaceOf self.now.facts id) }
+    {
+        place_of(&self.ids, id)
+    }
+
+    /// The live record with this id.
+    pub fn get(&self, id: u32) -> Option<&Raw>
+        requires { AreIncreasing (ids_in self.now.facts) }
+        ensures { option_copied result ≡ record_with_id id self.now.facts }
+    {
+        match self.place(id) {
+            Some(place) => Some(&self.facts[place]),
+            None => None,
+        }
+    }
+
+    /// Sets one variable of the record with this id, and gives what it held.
+    pub fn set(&mut self, id: u32, var: usize, value: Option<u32>) -> Option<u32>
+        requires increasing { AreIncreasing (ids_in self.old.facts) }
+        requires there { IsSomeAnd (record_with_id id self.old.facts) (λ raw. var < length raw.values) }
+        ensures held { IsSomeAnd (record_with_id id self.old.facts) (λ raw. result ≡ slice_index_or raw.values var result) }
+        ensures now { self.new ≡ with_record self.old id (λ raw. record raw { values = slice_set raw.values var value }) }
+    {
+        match self.place(id) {
+            Some(place) => {
+                let raw = &mut self.facts[place];
+                set_value(raw, var, value)
+            }
+            None => unreachable!(),
+        }
+    }
+
+    /// Sets one field of the record with this id.
+    pub fn set_field(&mut self, id: u32, field: usize, number: i64)
+        requires increasing { AreIncreasing (ids_in self.old.facts) }
+        requires there { IsSomeAnd (record_with_id id self.old.facts) (λ raw. field < length raw.fields) }
+        ensures { self.new ≡ with_record self.old id (λ raw. record raw { fields = slice_set raw.fields field number }) }
+    {
+        match self.place(id) {
+            Some(place) => {
+                let raw = &mut self.facts[place];
+                set_number(raw, field, number);
+            }
+            None => unreachable!(),
+        }
+    }
+
+    /// A copy of the table.
+    pub fn copy(&self) -> Result<Table, Memory>
+        ensures { IfOk result (λ copy. copy ≡ self.now) }
+    {
+        let alloc = *self.ids.allocator();
+        let mut facts = Vec::new(alloc);
+        for raw in &self.facts {
+            facts.push(raw.copy(alloc)?)?;
+        }
+        Ok(Table {
+            fields: self.fields,
+            ranges: self.ranges.copy(alloc)?,
+            ids: Vec::from_slice(alloc, &self.ids)?,
+            facts,
+            greatest: self.greatest,
+        })
+    }
+}

@@ -48,6 +48,36 @@ impl Plan {
         self.tables.get(class as usize)
     }
 
+    /// The number of classes.
+    pub fn classes(&self) -> u8
+        ensures classes { result ≡ length self.now.classes }
+        ensures sound { IsPlan self.now }
+    {
+        self.tables.len() as u8
+    }
+
+    /// The live facts of a class as they are kept, the ids increasing; none where there is no such class.
+    pub fn facts(&self, class: u8) -> &[Raw]
+        ensures facts { result.now ≡ (class_of self.now class).facts }
+        ensures sound { IsPlan self.now }
+    {
+        match self.table(class) {
+            Some(table) => table.facts(),
+            None => &[],
+        }
+    }
+
+    /// The value class of each variable of a class; none where there is no such class.
+    pub fn ranges(&self, class: u8) -> &[u8]
+        ensures ranges { result.now ≡ (class_of self.now class).ranges }
+        ensures sound { IsPlan self.now }
+    {
+        match self.table(class) {
+            Some(table) => table.ranges(),
+            None => &[],
+        }
+    }
+
     /// The ids of the live facts of a class, increasing; none where there is no such class.
     pub fn ids(&self, class: u8) -> &[u32]
         ensures ids { result.now ≡ ids_of self.now class }

@@ -77,6 +77,13 @@ impl Table {
         self.ranges.as_slice()
     }
 
+    /// The live records, the ids increasing.
+    pub fn facts(&self) -> &[Raw]
+        ensures { result.now ≡ self.now.facts }
+    {
+        &self.facts
+    }
+
     /// The ids of the live records, increasing.
     pub fn ids(&self) -> &[u32]
         ensures { result.now ≡ ids_in self.now.facts }

@@ -1,0 +1,67 @@
+-- Edits of a plan: which are legal and doable, what they make of a plan, and what takes them back.
+use Rattle.std.specs.Prelude.{◌==◌, ◌&&◌, not, ℕ, Bool, false, IsTrue, List, [], ◌∷◌, map, fold, All, Option, None, is_some, nat_eq, slice_get, if◌then◌else◌}
+use Rattle.std.specs.Option.{option_eq, option_map_or, option_and_then}
+use Rattle.std.specs.List.{list_all, list_any}
+use Rattle.std.specs.Ordering.{nat_cmp, is_lt, then_cmp, on}
+use Rattle.std.specs.declared.cmp.Ordering.{Ordering}
+use Rattle.plan_facts.specs.Plan.{PlanView, class_of, fact_of, is_live, is_value_of}
+use Rattle.plan_facts.specs.PlanChanges.{with_value}
+use Rattle.plan_moves.specs.declared.edit.Set.{Set}
+use Rattle.plan_moves.specs.declared.edit.Touch.{Touch}
+
+-- the order of class, then id, then variable
+unfoldable pub set_order : Set → Set → Ordering
+set_order = then_cmp (on (λ s. s.class) nat_cmp) (then_cmp (on (λ s. s.id) nat_cmp) (on (λ s. s.var) nat_cmp))
+
+-- the order of class, then id
+unfoldable pub touch_order : Touch → Touch → Ordering
+touch_order = then_cmp (on (λ t. t.class) nat_cmp) (on (λ t. t.id) nat_cmp)
+
+-- each place stands once, in order
+abbrev pub AreInOrder : List Set → Type 0
+AreInOrder [] = Unit {0}
+AreInOrder (first ∷ rest) = All (λ later. IsTrue (is_lt (set_order first later))) rest × AreInOrder rest
+
+-- what a variable of a live entity holds now; none where there is no such variable
+abbrev pub held_by : PlanView → ℕ → ℕ → ℕ → Option (Option ℕ)
+held_by plan class id var = option_and_then (λ raw. slice_get raw.values var) (fact_of plan class id)
+
+-- the variable is there, and the value is null or live in its range
+abbrev pub is_legal_set : PlanView → Set → Bool
+is_legal_set plan set =
+    is_some (held_by plan set.class set.id set.var)
+    && option_map_or (λ range. is_value_of plan range set.value) (slice_get (class_of plan set.class).ranges set.var) false
+
+-- the set changes what its variable holds
+abbrev pub is_change : PlanView → Set → Bool
+is_change plan set = option_map_or (λ held. not (option_eq nat_eq held set.value)) (held_by plan set.class set.id set.var) false
+
+-- each set of the edit is legal
+abbrev pub is_legal : PlanView → List Set → Bool
+is_legal plan sets = list_all (is_legal_set plan) sets
+
+-- the edit is legal and changes some variable
+abbrev pub is_doable : PlanView → List Set → Bool
+is_doable plan sets = is_legal plan sets && list_any (is_change plan) sets
+
+-- the plan after the edit
+unfoldable pub applied : PlanView → List Set → PlanView
+applied plan sets = fold (λ p set. with_value p set.class set.id set.var set.value) plan sets
+
+-- the edit that takes a legal edit back: the same variables with their present values
+unfoldable pub inverse_of : PlanView → List Set → List Set
+inverse_of plan sets = map {A = Set} {B = Set} (λ set. record set { value = option_map_or (λ held. held) (held_by plan set.class set.id set.var) None }) sets
+
+-- an entity as a touch
+abbrev pub touch_of : Set → Touch
+touch_of set = record { class = set.class; id = set.id }
+
+-- the entity is the one that the rest begins with
+abbrev pub is_first_touched : Touch → List Touch → Bool
+is_first_touched touch [] = false
+is_first_touched touch (first ∷ rest) = (touch.class == first.class) && (touch.id == first.id)
+
+-- the entities of an edit, each once, in order
+abbrev pub touched_by : List Set → List Touch
+touched_by [] = []
+touched_by (set ∷ rest) = if is_first_touched (touch_of set) (touched_by rest) then touched_by rest else touch_of set ∷ touched_by rest

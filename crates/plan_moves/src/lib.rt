@@ -1,0 +1,6 @@
+//! Moves: edits of a plan's variables.
+#![tactic(auto)]
+
+mod edit;
+
+pub use edit::{Edit, Set, Touch};

@@ -1,4 +1,5 @@
 pub mod First
+pub mod Names
 pub mod Schema
 pub mod Plan
 pub mod PlanChanges

@@ -3,6 +3,7 @@
 
 mod list;
 mod memory;
+mod names;
 mod names_of_class;
 mod plan;
 mod record;
@@ -12,6 +13,7 @@ mod text;
 
 pub use list::List;
 pub use memory::Memory;
+pub use names::Names;
 pub use names_of_class::is_name;
 pub use plan::Plan;
 pub use record::{

@@ -17,7 +17,7 @@ impl<T> Model for List<T> {
 }
 
 impl<T> List<T> {
-    ghost use Rattle.std.specs.Prelude.{take, drop, ◌≡◌, ◌++◌, ◌∷◌, [], List, length, slice_get, OnOk, OnErr, option_copied, option_to_list};
+    ghost use Rattle.std.specs.Prelude.{take, drop, ◌≡◌, ◌++◌, ◌∷◌, [], List, length, slice_get, IfNone, OnOk, OnErr, option_copied, option_to_list};
     ghost use Rattle.std.specs.Borrow.{Lends, Array, sem};
     ghost use Rattle.plan_facts.specs.contracts.list.List.{the_row};
 
@@ -61,7 +61,8 @@ impl<T> List<T> {
 
     /// Takes the last item out; none where there is none.
     pub fn pop(&mut self) -> Option<T>
-        ensures { self.old ≡ self.new ++ option_to_list result }
+        ensures last { self.old ≡ self.new ++ option_to_list result }
+        ensures none { IfNone result (self.old ≡ []) }
     {
         self.items.pop()
     }

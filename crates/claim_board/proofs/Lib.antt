@@ -1,0 +1,4 @@
+pub mod Draws
+pub mod Gathers
+pub mod Keeps
+pub mod Totals

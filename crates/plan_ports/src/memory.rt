@@ -1,0 +1,153 @@
+// A source and a sink in memory, which fail at the calls that they are told.
+ghost use Rattle.std.specs.Prelude.{◌≡◌, ◌≤◌, ◌<◌, ◌==◌, ◌↔◌, [], ◌++◌, true, false, length, take, drop, min, IsTrue, IfOk, OnOk, OnErr, IsOk, IsErr, IsErrOf};
+ghost use Rattle.plan_ports.specs.InMemory.{SourceView, SinkView, fresh_calls, fails_next, given, after_take, after_put};
+ghost use Rattle.plan_ports.specs.Outside.{Rose, Moves};
+
+use crate::calls::Calls;
+use crate::{Failed, PortFault, Sink, Source};
+use std::alloc::Global;
+use std::marker::Model;
+
+/// A source of bytes in memory.
+#[derive(Drop)]
+pub struct MemSource {
+    bytes: Vec<u8>,
+    at: usize,
+    most: usize,
+    calls: Calls,
+}
+
+impl Model for MemSource {
+    ghost Value = { SourceView };
+
+    ghost view = { λ s. record { left = drop s.at s.bytes.items; most = s.most; calls = s.calls } };
+
+    ghost invariant = { λ s. (s.at ≤ length s.bytes.items) × (1 ≤ s.most) };
+}
+
+impl MemSource {
+    /// A source of these bytes that gives at most `most` of them in each take. The takes whose
+    /// numbers, from 0, stand in `fail` fail.
+    pub fn new(bytes: Vec<u8>, most: usize, fail: Vec<u32>) -> MemSource
+        requires { 1 ≤ most }
+        ensures { result ≡ record { left = bytes.items; most = most; calls = fresh_calls fail.items } }
+    {
+        MemSource {
+            bytes,
+            at: 0,
+            most,
+            calls: Calls::new(fail),
+        }
+    }
+
+    /// How many takes failed.
+    pub fn faults(&self) -> u64
+        ensures { result ≡ self.now.calls.faults }
+    {
+        self.calls.faults()
+    }
+}
+
+impl Source for MemSource {
+    ghost tells = { λ _. true };
+
+    ghost left = { λ s. s.left };
+
+    ghost faults = { λ s. s.calls.faults };
+
+    ghost is_sound = { λ s. length s.calls.fail == 0 };
+
+    // The trait's clauses, then what only this source says.
+    fn take(&mut self, buf: &mut [u8]) -> Result<usize, Failed>
+        ensures within { IfOk result (λ n. n ≤ length buf.old) }
+        ensures moves { IfOk result (λ n. Moves n self.old.left self.new.left buf.old buf.new) }
+        ensures failed { OnErr result (Rose self.old.calls.faults self.new.calls.faults) }
+        ensures sound { (length self.old.calls.fail == 0) ≡ true → IsOk result × (self.new.calls.faults ≡ self.old.calls.faults) }
+        ensures later { self.old.calls.faults ≤ self.new.calls.faults }
+        ensures same_sound { (length self.new.calls.fail == 0) ≡ (length self.old.calls.fail == 0) }
+
+        // It fails exactly at the calls that it was told, and then gives nothing.
+        ensures fails { IsErr result ↔ IsTrue (fails_next self.old.calls) }
+        ensures nothing { OnErr result ((self.new ≡ after_take 0 self.old) × (buf.new ≡ buf.old)) }
+        ensures gives { IfOk result (λ n. n ≡ given self.old (length buf.old)) }
+        ensures after { IfOk result (λ n. self.new ≡ after_take n self.old) }
+    {
+        if self.calls.next_fails() {
+            return Err(Failed);
+        }
+        let left = &self.bytes[self.at..];
+        let n = buf.len().min(self.most).min(left.len());
+        buf[..n].copy_from_slice(&left[..n]);
+        self.at += n;
+        Ok(n)
+    }
+}
+
+/// A sink that keeps in memory what is written.
+#[derive(Drop)]
+pub struct MemSink {
+    bytes: Vec<u8>,
+    most: usize,
+    calls: Calls,
+}
+
+impl Model for MemSink {
+    ghost Value = { SinkView };
+
+    ghost view = { λ s. record { written = s.bytes.items; most = s.most; calls = s.calls } };
+
+    ghost invariant = { λ s. 1 ≤ s.most };
+}
+
+impl MemSink {
+    /// An empty sink that takes at most `most` bytes in each put. The puts whose numbers, from 0,
+    /// stand in `fail` fail.
+    pub fn new(alloc: Global, most: usize, fail: Vec<u32>) -> MemSink
+        requires { 1 ≤ most }
+        ensures { result ≡ record { written = []; most = most; calls = fresh_calls fail.items } }
+    {
+        MemSink {
+            bytes: Vec::new(alloc),
+            most,
+            calls: Calls::new(fail),
+        }
+    }
+
+    /// What was written so far.
+    pub fn text(&self) -> &[u8]
+        ensures { result.now ≡ self.now.written }
+    {
+        &self.bytes
+    }
+}
+
+impl Sink for MemSink {
+    ghost tells = { λ _. true };
+
+    ghost written = { λ s. s.written };
+
+    ghost faults = { λ s. s.calls.faults };
+
+    // The trait's clauses, then what only this sink says.
+    fn put(&mut self, piece: &[u8]) -> Result<usize, PortFault>
+        ensures within { IfOk result (λ n. n ≤ length piece.now) }
+        ensures appends { IfOk result (λ n. self.new.written ≡ self.old.written ++ take n piece.now) }
+        ensures nothing { OnErr result (self.new.written ≡ self.old.written) }
+        ensures failed { IsErrOf result PortFault.Failed → Rose self.old.calls.faults self.new.calls.faults }
+        ensures zero { IfOk result (λ n. n ≡ 0 → 0 < length piece.now → Rose self.old.calls.faults self.new.calls.faults) }
+        ensures later { self.old.calls.faults ≤ self.new.calls.faults }
+
+        // It fails exactly at the calls that it was told.
+        ensures fails { IsErrOf result PortFault.Failed ↔ IsTrue (fails_next self.old.calls) }
+        ensures takes { IfOk result (λ n. n ≡ min (length piece.now) self.old.most) }
+        ensures after { IfOk result (λ n. self.new ≡ after_put (take n piece.now) self.old) }
+        ensures after_err { OnErr result (self.new ≡ after_put [] self.old) }
+    {
+        if self.calls.next_fails() {
+            return Err(PortFault::Failed);
+        }
+        let n = piece.len().min(self.most);
+        self.bytes.extend_from_slice(&piece[..n])?;
+        Ok(n)
+    }
+}

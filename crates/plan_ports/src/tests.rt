@@ -1,0 +1,265 @@
+ghost use Rattle.std.specs.Prelude.{◌≤◌, IfOk, [], true};
+
+use crate::{
+    FileShelf, Gate, MemFile, MemShelf, MemSink, MemSource, NoGate, OutSink, Place, PortFault,
+    ReadFault, Shelf, Sink, Source, put_all, read_all,
+};
+use std::alloc::{AllocError, Global};
+use std::fmt::Display;
+use std::test::Fail;
+use std::{fs, io};
+
+fn source(alloc: Global, bytes: &[u8], most: usize, fail: &[u32]) -> Result<MemSource, AllocError>
+    requires { 1 ≤ most }
+{
+    let bytes = Vec::from_slice(alloc, bytes)?;
+    Ok(MemSource::new(bytes, most, Vec::from_slice(alloc, fail)?))
+}
+
+fn sink(alloc: Global, most: usize, fail: &[u32]) -> Result<MemSink, AllocError>
+    requires { 1 ≤ most }
+{
+    Ok(MemSink::new(alloc, most, Vec::from_slice(alloc, fail)?))
+}
+
+#[test]
+fn a_source_gives_its_bytes_in_pieces_and_fails_at_its_calls(rt: HostRuntime) -> Result<(), Fail> {
+    let mut src = source(rt.alloc(), b"abcdefgh", 3, &[1, 4])?;
+    let pieces = [
+        Some("abc"),
+        None,
+        Some("def"),
+        Some("gh"),
+        None,
+        Some(""),
+        Some(""),
+    ];
+    for piece in pieces {
+        let mut buf = [0u8; 5];
+        let taken = src.take(&mut buf).ok().map(|n| n.min(5));
+        assert_eq!(rt; taken, piece.map(|p| p.len()));
+        let n = taken.unwrap_or(0);
+        assert_eq!(rt; &buf[..n], piece.unwrap_or("").as_bytes());
+    }
+    assert_eq!(rt; src.faults(), 2);
+    Ok(())
+}
+
+#[test]
+fn a_front_of_the_text_is_written_where_a_put_fails(rt: HostRuntime) -> Result<(), Fail> {
+    let text = b"score 0hard/0medium/0soft\nend\n".as_slice();
+    for n in 0..5u32 {
+        let mut out = sink(rt.alloc(), 7, &[n])?;
+        assert_eq!(rt; put_all(&mut out, text), Err(PortFault::Failed));
+        assert_eq!(rt; out.text(), text.get(..7 * n as usize).unwrap_or(b""));
+    }
+    let mut out = sink(rt.alloc(), 7, &[5])?;
+    assert_eq!(rt; put_all(&mut out, text), Ok(()));
+    assert_eq!(rt; put_all(&mut out, b""), Ok(()));
+    assert_eq!(rt; out.text(), text);
+    Ok(())
+}
+
+// A sink that is full.
+#[derive(Drop)]
+struct Full {
+    faults: u64,
+}
+
+impl Sink for Full {
+    ghost tells = { λ _. true };
+
+    ghost written = { λ _. [] };
+
+    ghost faults = { λ s. s.faults };
+
+    fn put(&mut self, _piece: &[u8]) -> Result<usize, PortFault> {
+        self.faults = self.faults.saturating_add(1);
+        Ok(0)
+    }
+}
+
+#[test]
+fn a_put_that_takes_nothing_ends_the_text(rt: HostRuntime) {
+    let mut out = Full { faults: 0 };
+    assert_eq!(rt; put_all(&mut out, b"end\n"), Err(PortFault::Failed));
+    assert_eq!(rt; put_all(&mut out, b""), Ok(()));
+    assert_eq!(rt; out.faults, 1);
+}
+
+#[test]
+fn all_is_read_up_to_the_limit(rt: HostRuntime) -> Result<(), Fail> {
+    let cases = [
+        ("hello", 5, 9, Ok(())),
+        ("hello", 6, 1, Ok(())),
+        ("hello", 4, 1, Err(ReadFault::TooLong)),
+        ("", 0, 1, Ok(())),
+        ("h", 0, 9, Err(ReadFault::TooLong)),
+    ];
+    for (text, limit, most, want) in cases {
+        let mut src = source(rt.alloc(), text.as_bytes(), most, &[])?;
+        let read = read_all(rt.alloc(), &mut src, limit);
+        assert_eq!(rt; read.as_ref().map(|_| ()).map_err(|e| *e), want);
+        if let Ok(bytes) = read {
+            assert_eq!(rt; bytes.as_slice(), text.as_bytes());
+        }
+    }
+    Ok(())
+}
+
+#[test]
+fn a_take_that_fails_ends_the_reading(rt: HostRuntime) -> Result<(), Fail> {
+    for n in 0..6u32 {
+        let mut src = source(rt.alloc(), b"hello", 1, &[n])?;
+        assert!(rt; matches!(read_all(rt.alloc(), &mut src, 5), Err(ReadFault::Failed)));
+        assert_eq!(rt; src.faults(), 1);
+    }
+    let mut src = source(rt.alloc(), b"hello", 1, &[6])?;
+    assert!(rt; read_all(rt.alloc(), &mut src, 5).is_ok());
+    Ok(())
+}
+
+#[test]
+fn a_long_text_is_read_to_its_last_byte(rt: HostRuntime) -> Result<(), Fail> {
+    let text = vec![in rt.alloc(); b'x'; 10_000]?;
+    for (limit, fits) in [(10_000, true), (9_999, false)] {
+        let mut src = source(rt.alloc(), &text, 5_000, &[])?;
+        match read_all(rt.alloc(), &mut src, limit) {
+            Ok(bytes) => assert!(rt; fits && bytes.as_slice() == text.as_slice()),
+            Err(fault) => assert!(rt; !fits && fault == ReadFault::TooLong),
+        }
+    }
+    Ok(())
+}
+
+fn file(alloc: Global, name: &str, bytes: &str, fail: &[u32]) -> Result<MemFile, AllocError>
+    ensures { IfOk result (λ f. 1 ≤ f.most) }
+{
+    Ok(MemFile {
+        name: Vec::from_slice(alloc, name.as_bytes())?,
+        bytes: Vec::from_slice(alloc, bytes.as_bytes())?,
+        most: 2,
+        fail: Vec::from_slice(alloc, fail)?,
+    })
+}
+
+fn shelf(alloc: Global, fail: &[u32]) -> Result<MemShelf, Fail> {
+    let mut files = Vec::new(alloc);
+    files.push(file(alloc, "p", "one", &[])?)?;
+    files.push(file(alloc, "q", "two", &[1])?)?;
+    files.push(file(alloc, "p", "three", &[])?)?;
+    Ok(MemShelf::new(alloc, files, Vec::from_slice(alloc, fail)?))
+}
+
+// What an open and a reading of the whole file give.
+fn fetched<S: Shelf>(alloc: Global, shelf: &mut S, name: &[u8]) -> Result<Vec<u8>, ReadFault> {
+    let mut file = match shelf.open(name) {
+        Ok(file) => file,
+        Err(PortFault::Memory) => return Err(ReadFault::Memory),
+        Err(PortFault::Failed) => return Err(ReadFault::Failed),
+    };
+    let read = read_all(alloc, &mut file, 100);
+    shelf.close(file);
+    read
+}
+
+#[test]
+fn a_shelf_opens_the_first_file_of_a_name(rt: HostRuntime) -> Result<(), Fail> {
+    let alloc = rt.alloc();
+    let mut shelf = shelf(alloc, &[2])?;
+    for (name, want) in [
+        ("p", Some("one")),
+        ("p", Some("one")),
+        ("p", None),
+        ("q", None),
+        ("r", None),
+        ("", None),
+        ("p", Some("one")),
+    ] {
+        let read = fetched(alloc, &mut shelf, name.as_bytes());
+        match want {
+            Some(bytes) => assert!(rt;
+                read.is_ok_and(|r| r.as_slice() == bytes.as_bytes()),
+                "at {name}"
+            ),
+            None => assert!(rt; matches!(read, Err(ReadFault::Failed)), "at {name}"),
+        }
+    }
+    Ok(())
+}
+
+// What a run hands to its threads.
+fn is_send<T: Send>(_value: &T) -> bool {
+    true
+}
+
+#[test]
+fn real_files_are_read_by_name(rt: HostRuntime) -> Result<(), Fail> {
+    let mut shelf = FileShelf::new(&rt);
+    fs::write(&rt, "plan_ports_test.txt", "two\nlines\n")?;
+    let read = fetched(rt.alloc(), &mut shelf, b"plan_ports_test.txt");
+    fs::remove_file(&rt, "plan_ports_test.txt")?;
+    assert!(rt; read.is_ok_and(|r| r.as_slice() == b"two\nlines\n".as_slice()));
+    let missing = [
+        b"no such file".as_slice(),
+        b"".as_slice(),
+        b"\xff".as_slice(),
+        b".".as_slice(),
+    ];
+    for name in missing {
+        assert!(rt;
+            matches!(
+                fetched(rt.alloc(), &mut shelf, name),
+                Err(ReadFault::Failed)
+            )
+        );
+    }
+    let Ok(input) = shelf.open(b"@") else {
+        panic!(rt; "standard input can't be opened");
+    };
+    assert!(rt; is_send(&input));
+    shelf.close(input);
+    Ok(())
+}
+
+#[test]
+fn standard_output_takes_a_text(rt: HostRuntime) {
+    let mut out = OutSink::new(&rt);
+    assert!(rt; is_send(&out));
+    assert_eq!(rt;
+        put_all(&mut out, b"standard output takes a text\n"),
+        Ok(())
+    );
+}
+
+// An output that was closed.
+#[derive(Drop)]
+struct Closed;
+
+impl Print for Closed {
+    fn print<D: Display + Drop>(&self, _value: D) -> io::Result<()> {
+        Err(io::Error::from(io::ErrorKind::BrokenPipe))
+    }
+
+    fn println<D: Display + Drop>(&self, _value: D) -> io::Result<()> {
+        Err(io::Error::from(io::ErrorKind::BrokenPipe))
+    }
+
+    fn write_all(&self, _bytes: &[u8]) -> io::Result<()> {
+        Err(io::Error::from(io::ErrorKind::BrokenPipe))
+    }
+}
+
+#[test]
+fn a_closed_output_fails(rt: HostRuntime) {
+    let closed = Closed;
+    let mut out = OutSink::new(&closed);
+    assert_eq!(rt; put_all(&mut out, b"end\n"), Err(PortFault::Failed));
+}
+
+#[test]
+fn the_open_gate_holds_nothing(_rt: HostRuntime) {
+    NoGate.enter(Place::Judge { step: 1, number: 0 });
+    NoGate.enter(Place::Boundary(0));
+    NoGate.enter(Place::Line(1));
+}

@@ -1,0 +1,4 @@
+pub mod Draw
+pub mod Problem
+pub mod Text
+pub mod Extends

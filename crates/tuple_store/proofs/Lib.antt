@@ -1,0 +1,6 @@
+pub mod LiveLaws
+pub mod LogLaws
+pub mod NumberLaws
+pub mod RowLaws
+pub mod TrialLaws
+pub mod WordLaws

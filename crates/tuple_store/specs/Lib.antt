@@ -1,0 +1,7 @@
+pub mod Bits
+pub mod Live
+pub mod Log
+pub mod Numbers
+pub mod Rows
+pub mod Trial
+pub mod View

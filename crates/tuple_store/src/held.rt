@@ -1,0 +1,17 @@
+/// Where a row stands: in the contents, in those that a rollback brings back, or in both.
+#[derive(Clone, Copy, Debug, PartialEq, Eq)]
+pub enum Mark {
+    /// In both.
+    Kept,
+    /// Added by the open trial.
+    Added,
+    /// Killed by the open trial.
+    Killed,
+}
+
+/// A row with its mark.
+#[derive(Drop)]
+pub struct Held<T> {
+    pub row: T,
+    pub mark: Mark,
+}

@@ -1,0 +1,14 @@
+//! Rows under numbers, with trials that are taken back exactly.
+#![tactic(auto)]
+
+mod bits;
+mod held;
+mod log;
+mod rows;
+mod store;
+#[cfg(test)]
+mod tests;
+mod trial;
+mod word;
+
+pub use store::{Memory, Store};

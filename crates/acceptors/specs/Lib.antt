@@ -1,0 +1,4 @@
+pub mod Accept
+pub mod History
+pub mod Recent
+pub mod Stands

@@ -34,3 +34,14 @@ none-first_fault fault_of earlier [] h = refl
 none-first_fault fault_of earlier (x ∷ xs) h =
     let here : fault_of earlier x ≡ None = rw (append-nil earlier) at (h zero x (omega arith)) in
     rw here (none-first_fault fault_of (earlier ++ x ∷ []) xs (λ k d lt. rw (append_assoc earlier (x ∷ []) (take k xs)) (h (suc k) d (omega arith))))
+
+-- the first fault of two lists in a row is that of the first, or else that of the second
+pub first_fault-append : {A F : Type 0} (fault_of : List A → A → Option F) (earlier xs ys : List A) →
+    first_fault fault_of earlier (xs ++ ys) ≡ option_or (first_fault fault_of earlier xs) (first_fault fault_of (earlier ++ xs) ys)
+first_fault-append fault_of earlier [] ys = rw (append-nil earlier) refl
+first_fault-append fault_of earlier (x ∷ xs) ys =
+    rw (first_fault-append fault_of (earlier ++ x ∷ []) xs ys, append_assoc earlier (x ∷ []) xs, option_or_assoc (fault_of earlier x) (first_fault fault_of (earlier ++ x ∷ []) xs) _) refl
+  where
+    option_or_assoc : {G : Type 0} (a b c : Option G) → option_or (option_or a b) c ≡ option_or a (option_or b c)
+    option_or_assoc None b c = refl
+    option_or_assoc (Some fault) b c = refl

@@ -1,0 +1,10 @@
+//! Reports: every line that a run prints, and its text.
+#![tactic(auto)]
+
+mod line;
+mod parts;
+
+pub use line::{Line, write_line};
+
+#[cfg(test)]
+mod tests;

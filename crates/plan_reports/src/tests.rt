@@ -1,0 +1,131 @@
+use super::*;
+use plan_facts::{ClassDef, FieldDef, Kind, List, Memory, Rec, Text, VarDef};
+use plan_rules::{Head, Part, Row, RuleDef};
+use plan_scores::{Level, PlanScore, Score};
+use std::alloc::Global;
+use std::test::Fail;
+
+fn text(alloc: Global, words: &str) -> Result<Text, Memory> {
+    Text::from_slice(alloc, words.as_bytes())
+}
+
+fn class(alloc: Global, name: &str, vars: &[(&str, u8)]) -> Result<ClassDef, Memory> {
+    let mut list = List::new(alloc);
+    for (name, values) in vars {
+        list.push(VarDef {
+            name: text(alloc, name)?,
+            values: *values,
+        })?;
+    }
+    let mut fields = List::new(alloc);
+    fields.push(FieldDef {
+        name: text(alloc, "size")?,
+        kind: Kind::Number,
+    })?;
+    Ok(ClassDef {
+        name: text(alloc, name)?,
+        fields,
+        vars: list,
+    })
+}
+
+/// Timeslots, rooms and lessons, which have a slot and a room.
+fn classes(alloc: Global) -> Result<List<ClassDef>, Memory> {
+    let mut classes = List::new(alloc);
+    classes.push(class(alloc, "timeslot", &[])?)?;
+    classes.push(class(alloc, "room", &[])?)?;
+    classes.push(class(alloc, "lesson", &[("slot", 0), ("room", 1)])?)?;
+    Ok(classes)
+}
+
+fn rules(alloc: Global) -> Result<List<RuleDef>, Memory> {
+    let mut rules = List::new(alloc);
+    rules.push(RuleDef {
+        name: text(alloc, "room_conflict")?,
+        level: Level::Hard,
+        reward: false,
+        weight: 1,
+        weigh: None,
+        head: Head::ForEach(2),
+        nodes: List::new(alloc),
+    })?;
+    Ok(rules)
+}
+
+fn hard(hard: i64) -> Score {
+    Score {
+        hard,
+        medium: 0,
+        soft: 0,
+    }
+}
+
+fn lesson(alloc: Global, id: u32) -> Part {
+    Part::Fact(Rec {
+        class: 2,
+        id,
+        fields: List::new(alloc),
+        planned: List::new(alloc),
+    })
+}
+
+/// One line of each kind, as a run over lessons 1 and 2 in one room prints them.
+fn lines(alloc: Global) -> Result<List<Line>, Memory> {
+    let placed = PlanScore {
+        unplaced: 0,
+        score: hard(-1),
+    };
+    let unplaced = PlanScore {
+        unplaced: 2,
+        score: hard(0),
+    };
+    let mut row = Row::new(alloc);
+    row.push(lesson(alloc, 1))?;
+    row.push(Part::Num(-7))?;
+    let mut lines = List::new(alloc);
+    lines.push(Line::Run {
+        domain: text(alloc, "timetable")?,
+    })?;
+    lines.push(Line::Leg { boundary: 0 })?;
+    lines.push(Line::Place {
+        class: 2,
+        id: 1,
+        values: List::from_slice(alloc, &[Some(1), Some(2)])?,
+        score: unplaced,
+    })?;
+    lines.push(Line::Stuck { class: 2, id: 2 })?;
+    lines.push(Line::Start(placed))?;
+    lines.push(Line::Best(placed))?;
+    lines.push(Line::Entity {
+        class: 2,
+        id: 2,
+        values: List::from_slice(alloc, &[None, Some(1)])?,
+    })?;
+    lines.push(Line::Rule {
+        rule: 0,
+        count: 1,
+        impact: hard(-1),
+    })?;
+    lines.push(Line::Match {
+        impact: hard(-1),
+        row,
+    })?;
+    lines.push(Line::End)?;
+    lines.push(Line::Total(unplaced))?;
+    Ok(lines)
+}
+
+#[test]
+fn each_line_has_its_text(rt: HostRuntime) -> Result<(), Fail> {
+    let alloc = rt.alloc();
+    let classes = classes(alloc)?;
+    let rules = rules(alloc)?;
+    let mut out = Vec::new(alloc);
+    for line in lines(alloc)?.as_slice() {
+        write_line(classes.as_slice(), rules.as_slice(), line, &mut out)?;
+    }
+    let wanted =
+        b"run timetable\nleg 0\nplace lesson#1 slot=1 room=2 -2init/0hard/0medium/0soft\nstuck lesson#2\nstart -1hard/0medium/0soft\nbest -1hard/0medium/0soft\nlesson#2 slot=- room=1\nrule room_conflict 1 -1hard/0medium/0soft\nmatch -1hard/0medium/0soft lesson#1 -7\nend\nscore -2init/0hard/0medium/0soft\n";
+    assert_eq!(rt; out.as_slice(), wanted.as_slice());
+    Ok(())
+}

@@ -2,6 +2,8 @@ pub mod Faults
 pub mod Groups
 pub mod Meaning
 pub mod Named
+pub mod Places
 pub mod Range
 pub mod Rows
+pub mod Sound
 pub mod Totals

@@ -2,6 +2,7 @@ ghost use Rattle.std.specs.Prelude.{◌≡◌};
 ghost use Rattle.plan_rules.specs.declared.fault.RuleFault.TheVariants as rule_fault;
 
 use plan_facts::Memory;
+use std::alloc::AllocError;
 
 /// A kind of closure.
 #[derive(Clone, Copy, Debug, Drop, PartialEq, Eq)]
@@ -59,6 +60,14 @@ pub enum RuleFault {
         kind: ClosureKind,
         number: u16,
     },
+}
+
+impl From<AllocError> for RuleFault {
+    ghost from_gives = { λ _ fault. fault ≡ rule_fault.Memory };
+
+    fn from(_: AllocError) -> RuleFault {
+        RuleFault::Memory
+    }
 }
 
 impl From<Memory> for RuleFault {

@@ -1,3 +1,6 @@
+ghost use Rattle.std.specs.Prelude.{◌≡◌};
+ghost use Rattle.plan_rules.specs.Named.{head_class, head_joiners, node_class, node_joiners};
+
 use crate::fault::ClosureKind;
 use plan_facts::{List, Text};
 use plan_scores::Level;
@@ -69,4 +72,53 @@ pub struct RuleDef {
     pub weigh: Option<u16>,
     pub head: Head,
     pub nodes: List<Node>,
+}
+
+impl Head {
+    /// The class that the stream begins with.
+    pub fn class(&self) -> u8
+        ensures { result ≡ head_class self.now }
+    {
+        match self {
+            Head::ForEach(class) => *class,
+            Head::ForEachNulls(class) => *class,
+            Head::Pairs(class, _) => *class,
+        }
+    }
+
+    /// The joiners of pairs, and none of the others.
+    pub fn joiners(&self) -> &[Joiner]
+        ensures { result.now ≡ head_joiners self.now }
+    {
+        match self {
+            Head::Pairs(_, joiners) => joiners.as_slice(),
+            _ => &[],
+        }
+    }
+}
+
+impl Node {
+    /// The class of the right records; none where the node has none.
+    pub fn class(&self) -> Option<u8>
+        ensures { result ≡ node_class self.now }
+    {
+        match self {
+            Node::Join(class, _, _) => Some(*class),
+            Node::IfExists(class, _, _) => Some(*class),
+            Node::IfNotExists(class, _, _) => Some(*class),
+            _ => None,
+        }
+    }
+
+    /// The joiners, none where the node has no right records.
+    pub fn joiners(&self) -> &[Joiner]
+        ensures { result.now ≡ node_joiners self.now }
+    {
+        match self {
+            Node::Join(_, _, joiners) => joiners.as_slice(),
+            Node::IfExists(_, _, joiners) => joiners.as_slice(),
+            Node::IfNotExists(_, _, joiners) => joiners.as_slice(),
+            _ => &[],
+        }
+    }
 }

@@ -1,0 +1,7 @@
+use Rattle.std.proofs.Common.{arith}
+use Rattle.std.proofs.lemmas.Grind.{common_steps}
+use Rattle.std.proofs.lemmas.List.Folds.{find-append}
+use Rattle.plan_rules.proofs.missing.missing_of_node.Goals as goal
+
+pub returns-in-GroupBy : goal.returns-in-GroupBy
+returns-in-GroupBy c = grind (arith, common_steps, find-append)

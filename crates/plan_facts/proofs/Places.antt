@@ -6,10 +6,10 @@ use Rattle.std.proofs.lemmas.List.{length-map}
 use Rattle.plan_facts.specs.declared.record.Raw.{Raw}
 use Rattle.plan_facts.specs.Plan.{record_with_id, ids_in, AreIncreasing, IsPlaceOf}
 
-eqb_same : (a b : ℕ) → a ≡ b → eqb a b ≡ true
+pub eqb_same : (a b : ℕ) → a ≡ b → eqb a b ≡ true
 eqb_same a b e = grind (arith, common_steps, rules)
 
-eqb_other : (a b : ℕ) → (a ≡ b → ⊥) → eqb a b ≡ false
+pub eqb_other : (a b : ℕ) → (a ≡ b → ⊥) → eqb a b ≡ false
 eqb_other a b n = grind (arith, common_steps, rules)
 
 pub same_eqb : (a b : ℕ) → eqb a b ≡ true → a ≡ b

@@ -3,3 +3,5 @@ pub mod Names
 pub mod Schema
 pub mod Plan
 pub mod PlanChanges
+pub mod PlanFaults
+pub mod Listed

@@ -100,10 +100,14 @@ record_of plan class id = option_map (resolved plan class) (fact_of plan class i
 unfoldable pub records_of : PlanView → ℕ → List Rec
 records_of plan class = map (resolved plan class) (class_of plan class).facts
 
--- null, or the id of a live record of the value class
+-- null, or the id of a record of the value class that is live
+abbrev pub is_value_among : (ℕ → ℕ → Bool) → ℕ → Option ℕ → Bool
+is_value_among live range None = true
+is_value_among live range (Some id) = live range id
+
+-- null, or the id of a live record of the plan's value class
 abbrev pub is_value_of : PlanView → ℕ → Option ℕ → Bool
-is_value_of plan range None = true
-is_value_of plan range (Some id) = is_live plan range id
+is_value_of plan range value = is_value_among (is_live plan) range value
 
 -- a field's number is from -10^9 to 10^9
 abbrev pub IsFieldNumber : ℤ → Type 0

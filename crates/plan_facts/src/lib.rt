@@ -1,7 +1,10 @@
 //! Facts: lists and texts, the schema of a domain, the plan of a problem, and numbered names.
 #![tactic(auto)]
 
+mod check;
+mod fault;
 mod list;
+mod listed;
 mod memory;
 mod names;
 mod names_of_class;
@@ -11,6 +14,7 @@ mod schema;
 mod table;
 mod text;
 
+pub use fault::PlanFault;
 pub use list::List;
 pub use memory::Memory;
 pub use names::Names;

@@ -59,6 +59,14 @@ impl<T> List<T> {
         self.items.as_mut_slice()
     }
 
+    /// The items, for a table that keeps them.
+    pub(crate) fn into_items(self) -> Vec<T>
+        ensures { result.items ≡ self }
+    {
+        let List { items } = self;
+        items
+    }
+
     /// Takes the last item out; none where there is none.
     pub fn pop(&mut self) -> Option<T>
         ensures last { self.old ≡ self.new ++ option_to_list result }

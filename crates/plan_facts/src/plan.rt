@@ -1,10 +1,14 @@
-ghost use Rattle.std.specs.Prelude.{◌≡◌, ◌<◌, IsTrue, is_none, if◌then◌else◌, IsSomeAnd, IfOk, MatchOption, List, length, map, zip, option_copied};
+ghost use Rattle.std.specs.Prelude.{◌≡◌, ◌<◌, IsTrue, is_none, if◌then◌else◌, IsSomeAnd, IfOk, OnOk, IfErr, None, MatchOption, List, length, map, zip, option_copied};
 ghost use Rattle.plan_facts.specs.Plan.{class_of, no_class, fact_of, ids_of, next_id_of, unplaced_of, record_of, resolved, held_value, range_of, is_value_of, IsPlan, IsClassOf, IsFieldNumber};
+ghost use Rattle.plan_facts.specs.PlanFaults.{plan_of, plan_fault, IsRefusal};
 ghost use Rattle.plan_facts.specs.PlanChanges.{with_value, with_field};
 
+use crate::fault::PlanFault;
 use crate::list::List;
+use crate::listed::{check_lists, count_all_nulls, make_tables};
 use crate::memory::Memory;
 use crate::record::{Raw, Rec, Value};
+use crate::schema::Schema;
 use crate::table::Table;
 use std::alloc::Global;
 use std::marker::Model;
@@ -40,6 +44,24 @@ fn null_count(value: Option<u32>) -> u32
 }
 
 impl Plan {
+    /// The plan of these records, one list for each class; or the first fault, which [`PlanFault`] orders.
+    pub fn of(alloc: Global, schema: &Schema, lists: List<List<Raw>>) -> Result<Plan, PlanFault>
+        ensures plan { IfOk result (λ plan. plan ≡ plan_of schema.now lists) }
+        ensures ok { OnOk result (plan_fault schema.now lists ≡ None) }
+        ensures sound { IfOk result IsPlan }
+        ensures err { IfErr result (IsRefusal (plan_fault schema.now lists)) }
+    {
+        let made = check_lists(alloc, schema, lists.as_slice())?;
+        let tables = make_tables(alloc, schema, lists)?;
+        let unplaced = count_all_nulls(&tables);
+        Ok(Plan {
+            alloc,
+            tables,
+            made,
+            unplaced,
+        })
+    }
+
     /// The records of a class; none where there is no such class.
     fn table(&self, class: u8) -> Option<&Table>
         ensures sound { IsPlan self.now }
@@ -225,3 +247,6 @@ impl Plan {
         })
     }
 }
+
+#[cfg(test)]
+mod tests;

@@ -1,5 +1,7 @@
-ghost use Rattle.std.specs.Prelude.{◌≡◌, ◌≢◌, ◌<◌, ◌+◌, ℕ, List, ◌∷◌, [], ◌++◌, length, None, Some, MatchOption, IsSomeAnd, All, slice_index, slice_index_or, slice_set, option_copied, filter, not, ◌==◌, IfOk, OnOk, OnErr};
-ghost use Rattle.plan_facts.specs.Plan.{record_with_id, ids_in, AreIncreasing, IsPlaceOf};
+ghost use Rattle.std.specs.Prelude.{◌≡◌, ◌≢◌, ◌<◌, ◌+◌, ℕ, List, ◌∷◌, [], ◌++◌, length, None, Some, MatchOption, IsSomeAnd, All, slice_index, slice_index_or, slice_set, option_copied, ◌^◌, max, fold, count_by, is_none, nat_eq, IfOk};
+ghost use Rattle.std.specs.List.{IsDistinct};
+ghost use Rattle.plan_facts.specs.Plan.{record_with_id, ids_in, nulls_in, AreIncreasing, IsPlaceOf};
+ghost use Rattle.plan_facts.specs.PlanFaults.{table_of};
 ghost use Rattle.plan_facts.specs.PlanChanges.{with_record};
 
 use crate::list::List;
@@ -45,6 +47,24 @@ fn place_of(ids: &[u32], id: u32) -> Option<usize>
     }
 }
 
+/// The greatest of some ids, 0 where there are none.
+fn greatest_of(ids: &[u32]) -> u32
+    ensures { result ≡ fold max 0 ids.now }
+{
+    let mut greatest = 0;
+    for id in ids {
+        greatest = (*id).max(greatest);
+    }
+    greatest
+}
+
+/// How many values are null.
+fn count_nulls(values: &[Option<u32>]) -> usize
+    ensures { result ≡ count_by is_none values.now }
+{
+    values.iter().filter(|value| value.is_none()).count()
+}
+
 /// Sets one variable of a record, and gives what it held.
 fn set_value(raw: &mut Raw, var: usize, value: Option<u32>) -> Option<u32>
     requires { var < length raw.old.values }
@@ -63,6 +83,41 @@ fn set_number(raw: &mut Raw, field: usize, number: i64)
 }
 
 impl Table {
+    /// A table of records whose ids differ.
+    pub fn of(
+        alloc: Global,
+        fields: usize,
+        ranges: List<u8>,
+        raws: List<Raw>,
+    ) -> Result<Table, Memory>
+        requires { IsDistinct nat_eq (ids_in raws) }
+        ensures { IfOk result (λ table. table ≡ table_of fields ranges raws) }
+    {
+        let mut facts = raws.into_items();
+        facts.sort_unstable_by_key(|raw| raw.id);
+        let ids: Vec<u32> = facts.iter().map(|raw| raw.id).collect(alloc)?;
+        let greatest = greatest_of(&ids);
+        Ok(Table {
+            fields,
+            ranges,
+            ids,
+            facts,
+            greatest,
+        })
+    }
+
+    /// How many variables of the records are null.
+    pub fn null_count(&self) -> usize
+        requires { nulls_in self.now.facts < 2 ^ 32 }
+        ensures { result ≡ nulls_in self.now.facts }
+    {
+        let mut nulls = 0;
+        for raw in &self.facts {
+            nulls += count_nulls(raw.values.as_slice());
+        }
+        nulls
+    }
+
     /// How many fields a record of the class has.
     pub fn fields(&self) -> usize
         ensures { result ≡ self.now.fields }

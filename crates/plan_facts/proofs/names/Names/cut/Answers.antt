@@ -1,4 +1,4 @@
-use Rattle.std.proofs.Common.{◌≡◌, ◌≤◌, ◌∙◌, ℕ, Vec, Global, List, map, take, length, ap, sym, arith, rules}
+use Rattle.std.proofs.Common.{◌≡◌, ◌≤◌, ◌∙◌, ℕ, Vec, Global, map, take, length, ap, sym, arith, rules}
 use Rattle.std.proofs.lemmas.List.{length-map, take-map}
 use Rattle.plan_facts.proofs.NamesLaws.{numbered}
 use Rattle.plan_facts.proofs.names.Names.cut.Goals as goal

@@ -1,4 +1,4 @@
-use Rattle.std.proofs.Common.{◌≡◌, ◌∙◌, ◌+◌, ◌≤◌, ◌++◌, ◌∷◌, [], ℕ, Vec, Global, List, Option, Some, None, map, length, slice_get, refl, ap, sym, arith, rules}
+use Rattle.std.proofs.Common.{◌≡◌, ◌∙◌, ◌≤◌, ◌++◌, ◌∷◌, [], ℕ, Vec, Global, None, map, length, slice_get, ap, sym, arith, rules}
 use Rattle.std.proofs.lemmas.List.{length-map, length_push}
 use Rattle.plan_facts.specs.Names.{place_of, with_name}
 use Rattle.plan_facts.proofs.NamesLaws.{numbered, with_name-there, with_name-new, number_of-new, slice_get-last, with_name-keys}

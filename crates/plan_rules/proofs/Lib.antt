@@ -1,3 +1,4 @@
 pub mod Accepted
 pub mod Positions
+pub mod Lengths
 pub mod PlacesLaws

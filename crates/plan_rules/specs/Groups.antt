@@ -1,10 +1,9 @@
 -- The groups of a list of rows, by their keys.
-use Rattle.std.specs.Prelude.{ℕ, ℤ, pos, ◌+ℤ◌, List, [], ◌∷◌, ◌++◌, map, filter, fold, length}
-use Rattle.std.specs.Ordering.{int_eq, int_cmp, is_eq}
+use Rattle.std.specs.Prelude.{ℕ, ℤ, pos, ◌+ℤ◌, List, [], ◌∷◌, ◌++◌, map, filter, fold, length, if◌then◌else◌}
+use Rattle.std.specs.Ordering.{int_eq, int_cmp, is_lt, is_eq}
 use Rattle.std.specs.Cmp.Lexicographic.{slice_cmp}
 use Rattle.std.specs.Int.{int_min, int_max}
 use Rattle.std.specs.Set.{distinct_count}
-use Rattle.std.specs.FinSet as set
 use Rattle.plan_rules.specs.declared.row.Part.{Part}
 use Rattle.plan_rules.specs.declared.row.Part.TheVariants.{Num}
 use Rattle.plan_rules.specs.declared.rule.Collect.{Collect}
@@ -15,9 +14,18 @@ use Rattle.plan_rules.specs.Meaning.{Meaning}
 abbrev pub group_key : Meaning → List ℕ → List Part → List ℤ
 group_key m keys row = map (λ key. m.key_of key row) keys
 
+-- a key among increasing ones, in its order, where it isn't one of them
+abbrev pub key_entered : List ℤ → List (List ℤ) → List (List ℤ)
+key_entered key [] = key ∷ []
+key_entered key (first ∷ rest) =
+    if is_lt (slice_cmp int_cmp key first) then key ∷ first ∷ rest
+    else if is_eq (slice_cmp int_cmp key first) then first ∷ rest
+    else first ∷ key_entered key rest
+
 -- the keys that occur among rows, each once, increasing
 abbrev pub keys_among : Meaning → List ℕ → List (List Part) → List (List ℤ)
-keys_among m keys rows = set.items {R = slice_cmp int_cmp} (set.from_list (map (group_key m keys) rows))
+keys_among m keys [] = []
+keys_among m keys (row ∷ rest) = key_entered (group_key m keys row) (keys_among m keys rest)
 
 -- the rows with a key, in their order
 abbrev pub rows_with : Meaning → List ℕ → List (List Part) → List ℤ → List (List Part)

@@ -1,5 +1,5 @@
 -- Bounds on rows and on the score, from how many live facts each class has.
-use Rattle.std.specs.Prelude.{◌==◌, ◌-◌, ◌*◌, ◌/◌, ◌^◌, nat_lt, ℕ, Bool, List, [], ◌∷◌, map, zip, sum_by, find, Option, Some, None, length, if◌then◌else◌, slice_index_or}
+use Rattle.std.specs.Prelude.{◌==◌, ◌≤◌, ◌-◌, ◌*◌, ◌/◌, ◌^◌, nat_lt, ℕ, Bool, List, [], ◌∷◌, map, zip, sum_by, find, Option, Some, None, length, if◌then◌else◌, slice_index_or}
 use Rattle.std.specs.Option.{option_or, option_map_or}
 use Rattle.std.specs.List.{list_any}
 use Rattle.plan_facts.specs.First.{first_fault}
@@ -8,12 +8,17 @@ use Rattle.plan_rules.specs.declared.rule.Head.TheVariants as head
 use Rattle.plan_rules.specs.declared.rule.Node.{Node}
 use Rattle.plan_rules.specs.declared.rule.Node.TheVariants as node
 use Rattle.plan_rules.specs.declared.rule.RuleDef.{RuleDef}
+use Rattle.plan_rules.specs.Rows.{Facts}
 use Rattle.plan_rules.specs.declared.fault.RangeFault.{RangeFault}
 use Rattle.plan_rules.specs.declared.fault.RangeFault.TheVariants.{RowsBound, ScoreRange}
 
 -- the live facts of a class
 abbrev pub size_of : List ℕ → ℕ → ℕ
 size_of sizes class = slice_index_or sizes class 0
+
+-- no class has more live facts than its size
+abbrev pub AreWithin : List ℕ → Facts → Type 0
+AreWithin sizes facts = (class : ℕ) → length (facts class) ≤ size_of sizes class
 
 -- as many rows as a head can have
 abbrev pub head_bound : List ℕ → Head → ℕ

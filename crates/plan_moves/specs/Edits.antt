@@ -1,8 +1,8 @@
 -- Edits of a plan: which are legal and doable, what they make of a plan, and what takes them back.
-use Rattle.std.specs.Prelude.{◌==◌, ◌&&◌, not, ℕ, Bool, false, IsTrue, List, [], ◌∷◌, map, fold, All, Option, None, is_some, nat_eq, slice_get, if◌then◌else◌}
+use Rattle.std.specs.Prelude.{◌==◌, ◌&&◌, not, ℕ, Bool, false, IsTrue, List, [], ◌∷◌, ◌++◌, map, filter, fold, All, Option, None, is_some, nat_eq, slice_get, if◌then◌else◌}
 use Rattle.std.specs.Option.{option_eq, option_map_or, option_and_then}
 use Rattle.std.specs.List.{list_all, list_any}
-use Rattle.std.specs.Ordering.{nat_cmp, is_lt, then_cmp, on}
+use Rattle.std.specs.Ordering.{nat_cmp, is_lt, is_eq, then_cmp, on}
 use Rattle.std.specs.declared.cmp.Ordering.{Ordering}
 use Rattle.plan_facts.specs.Plan.{PlanView, class_of, fact_of, is_live, is_value_of}
 use Rattle.plan_facts.specs.PlanChanges.{with_value}
@@ -21,6 +21,14 @@ touch_order = then_cmp (on (λ t. t.class) nat_cmp) (on (λ t. t.id) nat_cmp)
 abbrev pub AreInOrder : List Set → Type 0
 AreInOrder [] = Unit {0}
 AreInOrder (first ∷ rest) = All (λ later. IsTrue (is_lt (set_order first later))) rest × AreInOrder rest
+
+-- whether an edit sets this variable
+abbrev pub is_set_in : List Set → Set → Bool
+is_set_in sets set = list_any (λ other. is_eq (set_order other set)) sets
+
+-- the sets with one more: those before it, it, and those after it
+abbrev pub with_set : List Set → Set → List Set
+with_set sets set = filter (λ other. is_lt (set_order other set)) sets ++ set ∷ filter (λ other. is_lt (set_order set other)) sets
 
 -- what a variable of a live entity holds now; none where there is no such variable
 abbrev pub held_by : PlanView → ℕ → ℕ → ℕ → Option (Option ℕ)

@@ -1,4 +1,10 @@
+ghost use Rattle.std.specs.Prelude.{◌≡◌, ◌<◌, ◌≤◌, ◌-◌, All, IsTrue, true, false, length, drop, slice_index_or};
+ghost use Rattle.std.specs.Ordering.{is_lt, is_eq};
+ghost use Rattle.plan_moves.specs.Edits.{set_order};
+
+use plan_facts::Memory;
 use std::alloc::Global;
+use std::cmp::Ordering;
 use std::marker::Model;
 
 /// A variable of an entity, and the id of the value that it is to get, or null.
@@ -36,8 +42,41 @@ impl Model for Edit {
     ghost invariant = { λ e. AreInOrder e.sets.items };
 }
 
+// Which of two variables comes first: by class, then id, then variable.
+#[tactic(auto, unfolding(crate::specs::Edits::set_order))]
+fn order_of(one: &Set, other: &Set) -> Ordering
+    ensures { result ≡ set_order one.now other.now }
+{
+    one.class
+        .cmp(&other.class)
+        .then(one.id.cmp(&other.id).then(one.var.cmp(&other.var)))
+}
+
+// The place from which on all sets come after this one. Sets that come in order are placed at once.
+fn place_for(sets: &[Set], set: &Set) -> usize
+    ensures within { result ≤ length sets.now }
+    ensures after { All (λ later. IsTrue (is_lt (set_order set.now later))) (drop result sets.now) }
+    ensures before { 0 < result → is_lt (set_order set.now (slice_index_or sets.now (result - 1) set.now)) ≡ false }
+{
+    let mut place = sets.len();
+    while place > 0 && order_of(set, &sets[place - 1]).is_lt() {
+        place -= 1;
+    }
+    place
+}
+
+// Whether the variable stands just before this place.
+fn is_just_before(sets: &[Set], set: &Set, place: usize) -> bool
+    requires { place ≤ length sets.now }
+    ensures there { result ≡ true → (0 < place) × (is_eq (set_order (slice_index_or sets.now (place - 1) set.now) set.now) ≡ true) }
+    ensures free { result ≡ false → 0 < place → is_eq (set_order (slice_index_or sets.now (place - 1) set.now) set.now) ≡ false }
+{
+    place > 0 && order_of(&sets[place - 1], set).is_eq()
+}
+
 impl Edit {
-    ghost use Rattle.std.specs.Prelude.{◌≡◌, []};
+    ghost use Rattle.std.specs.Prelude.{◌≡◌, [], not, if◌then◌else◌, IfOk, OnErr};
+    ghost use Rattle.plan_moves.specs.Edits.{is_set_in, with_set};
 
     /// The edit that changes nothing.
     pub fn new(alloc: Global) -> Edit
@@ -53,5 +92,19 @@ impl Edit {
         ensures { result.now ≡ self.now }
     {
         &self.sets
+    }
+
+    /// Adds a variable with its value; false, and nothing is added, exactly where that variable is in the edit already.
+    pub fn put(&mut self, set: Set) -> Result<bool, Memory>
+        ensures answer { IfOk result (λ put. put ≡ not (is_set_in self.old set)) }
+        ensures now { IfOk result (λ put. self.new ≡ (if put then with_set self.old set else self.old)) }
+        ensures err { OnErr result (self.new ≡ self.old) }
+    {
+        let place = place_for(&self.sets, &set);
+        if is_just_before(&self.sets, &set, place) {
+            return Ok(false);
+        }
+        self.sets.insert(place, set)?;
+        Ok(true)
     }
 }

@@ -1,5 +1,5 @@
 -- Sets in the order of their variables, and one more put among them.
-use Rattle.std.proofs.Common.{◌≡◌, ◌∙◌, ◌<◌, ◌≤◌, ◌-◌, ◌+◌, ℕ, zero, suc, Bool, true, false, not, cond, IsTrue, List, [], ◌∷◌, ◌++◌, length, get_or, take, drop, refl, sym, ap, subst, inl, inr, arith, All}
+use Rattle.std.proofs.Common.{◌≡◌, ◌∙◌, ◌<◌, ◌≤◌, ◌-◌, ◌+◌, ℕ, zero, suc, Bool, true, false, not, cond, IsTrue, map, List, [], ◌∷◌, ◌++◌, length, get_or, take, drop, refl, sym, ap, subst, inl, inr, arith, All}
 use Rattle.std.specs.List.{filter, list_any, insert}
 use Rattle.std.specs.Cmp.{IsTotalOrder}
 use Rattle.std.specs.Ordering.{is_lt, is_eq, ordering_reverse}
@@ -7,10 +7,11 @@ use Rattle.std.specs.declared.cmp.Ordering.{Ordering}
 use Rattle.std.specs.declared.cmp.Ordering.TheVariants.{Less, Equal, Greater}
 use Rattle.std.proofs.lemmas.Cmp.{then_total, on_total, nat_cmp_total}
 use Rattle.std.proofs.lemmas.List.{take-append-drop, append-nil}
-use Rattle.std.proofs.lemmas.List.Elements.{All-append, All-cons, All-head, All-tail, All-nil, All-weaker, filter-append}
+use Rattle.std.proofs.lemmas.List.Elements.{All-map, All-append, All-cons, All-head, All-tail, All-nil, All-weaker, filter-append}
 use Rattle.std.proofs.lemmas.List.Folds.{list_any_none, list_any_at}
 use Rattle.plan_moves.specs.declared.edit.Set.{Set}
-use Rattle.plan_moves.specs.Edits.{set_order, AreInOrder, is_set_in, with_set}
+use Rattle.plan_moves.specs.Edits.{set_order, AreInOrder, is_set_in, with_set, set_back}
+use Rattle.plan_facts.specs.Plan.{PlanView}
 
 -- one set comes before another
 abbrev pub Before : Set → Set → Type 0
@@ -117,3 +118,15 @@ is_put sets set place order within after lt eq =
 -- a set whose variable is the one before its place is there already
 pub is_there : (sets : List Set) (set : Set) (place : ℕ) → place ≤ length sets → 0 < place → is_eq (set_order (get_or sets (place - 1) set) set) ≡ true → is_set_in sets set ≡ true
 is_there sets set place within some eq = list_any_at (λ other. is_eq (set_order other set)) sets (place - 1) set (omega arith) eq
+
+-- a set that takes another back has its variable
+pub set_back_order : (plan : PlanView) (one other : Set) → set_order (set_back plan one) (set_back plan other) ≡ set_order one other
+unfolding set_order
+set_back_order plan one other = refl
+
+-- the sets that take sets in order back are in order
+pub backs_in_order : (plan : PlanView) (sets : List Set) → AreInOrder sets → AreInOrder (map (set_back plan) sets)
+backs_in_order plan [] order = tt
+backs_in_order plan (set ∷ sets) order =
+    ( All-map (Before (set_back plan set)) (set_back plan) sets (All-weaker (Before set) (λ later. Before (set_back plan set) (set_back plan later)) (λ later h. ap is_lt (set_back_order plan set later) ∙ h) sets order.0)
+    , backs_in_order plan sets order.1)

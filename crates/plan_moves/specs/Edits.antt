@@ -56,9 +56,13 @@ is_doable plan sets = is_legal plan sets && list_any (is_change plan) sets
 unfoldable pub applied : PlanView → List Set → PlanView
 applied plan sets = fold (λ p set. with_value p set.class set.id set.var set.value) plan sets
 
+-- the set that gives its variable what it holds now
+abbrev pub set_back : PlanView → Set → Set
+set_back plan set = record set { value = option_map_or (λ held. held) (held_by plan set.class set.id set.var) None }
+
 -- the edit that takes a legal edit back: the same variables with their present values
 unfoldable pub inverse_of : PlanView → List Set → List Set
-inverse_of plan sets = map {A = Set} {B = Set} (λ set. record set { value = option_map_or (λ held. held) (held_by plan set.class set.id set.var) None }) sets
+inverse_of plan sets = map (set_back plan) sets
 
 -- an entity as a touch
 abbrev pub touch_of : Set → Touch

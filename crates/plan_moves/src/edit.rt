@@ -1,8 +1,10 @@
-ghost use Rattle.std.specs.Prelude.{◌≡◌, ◌<◌, ◌≤◌, ◌-◌, All, IsTrue, true, false, length, drop, slice_index_or};
+ghost use Rattle.std.specs.Prelude.{◌≡◌, ◌<◌, ◌≤◌, ◌-◌, All, IsTrue, true, false, length, drop, slice_index_or, option_copied, ◌==◌, ◌&&◌};
 ghost use Rattle.std.specs.Ordering.{is_lt, is_eq};
-ghost use Rattle.plan_moves.specs.Edits.{set_order};
+ghost use Rattle.std.specs.Option.{option_map_or};
+ghost use Rattle.plan_moves.specs.Edits.{set_order, touch_of};
 
-use plan_facts::Memory;
+use crate::legal;
+use plan_facts::{List, Memory, Plan, Schema};
 use std::alloc::Global;
 use std::cmp::Ordering;
 use std::marker::Model;
@@ -74,9 +76,29 @@ fn is_just_before(sets: &[Set], set: &Set, place: usize) -> bool
     place > 0 && order_of(&sets[place - 1], set).is_eq()
 }
 
+// The entity of a set.
+fn entity_of(set: &Set) -> Touch
+    ensures { result ≡ touch_of set.now }
+{
+    Touch {
+        class: set.class,
+        id: set.id,
+    }
+}
+
+// Whether a set is there and has this entity.
+fn is_of(set: Option<&Set>, touch: Touch) -> bool
+    ensures { result ≡ option_map_or (λ other. (touch.class == other.class) && (touch.id == other.id)) (option_copied set.entry) false }
+{
+    match set {
+        Some(set) => touch.class == set.class && touch.id == set.id,
+        None => false,
+    }
+}
+
 impl Edit {
     ghost use Rattle.std.specs.Prelude.{◌≡◌, [], not, if◌then◌else◌, IfOk, OnErr};
-    ghost use Rattle.plan_moves.specs.Edits.{is_set_in, with_set};
+    ghost use Rattle.plan_moves.specs.Edits.{is_set_in, with_set, is_doable, inverse_of, touched_by};
 
     /// The edit that changes nothing.
     pub fn new(alloc: Global) -> Edit
@@ -106,5 +128,40 @@ impl Edit {
         }
         self.sets.insert(place, set)?;
         Ok(true)
+    }
+
+    /// Whether the edit is legal and changes some variable.
+    pub fn doable(&self, _: &Schema, plan: &Plan) -> bool
+        ensures { result ≡ is_doable plan.now self.now }
+    {
+        legal::are_legal(plan, &self.sets) && legal::any_changes(plan, &self.sets)
+    }
+
+    /// The edit that takes this legal edit back: the same variables with their present values.
+    pub fn inverse(&self, plan: &Plan) -> Result<Edit, Memory>
+        ensures { IfOk result (λ back. back ≡ inverse_of plan.now self.now) }
+    {
+        let mut sets = Vec::with_capacity(*self.sets.allocator(), self.sets.len())?;
+        for set in &self.sets {
+            sets.push(Set {
+                value: legal::held(plan, set).flatten(),
+                ..*set
+            })?;
+        }
+        Ok(Edit { sets })
+    }
+
+    /// The entities that the edit sets variables of, each once, in the order of class and id.
+    pub fn touched(&self) -> Result<List<Touch>, Memory>
+        ensures { IfOk result (λ touches. touches ≡ touched_by self.now) }
+    {
+        let mut touches = List::new(*self.sets.allocator());
+        for place in 0..self.sets.len() {
+            let touch = entity_of(&self.sets[place]);
+            if !is_of(self.sets.get(place + 1), touch) {
+                touches.push(touch)?;
+            }
+        }
+        Ok(touches)
     }
 }

@@ -2,5 +2,6 @@
 #![tactic(auto)]
 
 mod edit;
+mod legal;
 
 pub use edit::{Edit, Set, Touch};

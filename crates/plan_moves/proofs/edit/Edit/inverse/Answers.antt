@@ -1,0 +1,16 @@
+use Rattle.std.proofs.Common.{◌≡◌, ◌∙◌, ap, map, sym, arith}
+use Rattle.std.proofs.lemmas.List.{take_all}
+use Rattle.plan_moves.specs.Edits.{set_back, AreInOrder, inverse_of}
+use Rattle.plan_moves.proofs.Order.{backs_in_order}
+use Rattle.plan_moves.proofs.edit.Edit.inverse.Goals as goal
+
+whole : (c : goal.After-loop-set) → c.loop-set.sets.items ≡ map (set_back c.args.plan.now) c.self.inside.sets.items
+whole c =
+    c.loop-set.invariant ∙ ap (map (set_back c.args.plan.now)) (take_all c.loop-set.set-index c.deref-set-items.result.now (omega arith) ∙ c.deref-set-items.ensures.value)
+
+pub invariant_of-result : goal.invariant_of-result
+invariant_of-result c = rw (whole c) (backs_in_order c.args.plan.now c.self.inside.sets.items c.self.invariant)
+
+pub returns : goal.returns
+unfolding inverse_of
+returns c = whole c ∙ ap (map (set_back c.args.plan.now)) c.self.view_is

@@ -1,0 +1,7 @@
+use Rattle.std.proofs.Common.{◌≡◌, take, map}
+use Rattle.plan_moves.specs.Edits.{set_back}
+use Rattle.plan_moves.proofs.edit.Edit.inverse.Given as goal
+
+-- the sets so far, each with what its variable holds
+abbrev pub invariant-loop-set : goal.invariant-loop-set
+invariant-loop-set l = l.sets.items ≡ map (set_back l.plan) (take l.set-index l.set-items)

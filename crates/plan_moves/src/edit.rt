@@ -98,7 +98,7 @@ fn is_of(set: Option<&Set>, touch: Touch) -> bool
 
 impl Edit {
     ghost use Rattle.std.specs.Prelude.{◌≡◌, [], not, if◌then◌else◌, IfOk, OnErr};
-    ghost use Rattle.plan_moves.specs.Edits.{is_set_in, with_set, is_doable, inverse_of, touched_by};
+    ghost use Rattle.plan_moves.specs.Edits.{is_set_in, with_set, is_legal, is_doable, applied, inverse_of, touched_by};
 
     /// The edit that changes nothing.
     pub fn new(alloc: Global) -> Edit
@@ -135,6 +135,16 @@ impl Edit {
         ensures { result ≡ is_doable plan.now self.now }
     {
         legal::are_legal(plan, &self.sets) && legal::any_changes(plan, &self.sets)
+    }
+
+    /// Sets the variables of a plan in which the edit is legal.
+    pub fn apply(&self, plan: &mut Plan)
+        requires { IsTrue (is_legal plan.old self.now) }
+        ensures { plan.new ≡ applied plan.old self.now }
+    {
+        for set in &self.sets {
+            plan.set(set.class, set.id, set.var, set.value);
+        }
     }
 
     /// The edit that takes this legal edit back: the same variables with their present values.

@@ -1,6 +1,7 @@
 -- Laws of sums of scores.
-use Rattle.std.proofs.Common.{◌≡◌, ◌≤◌, ◌<◌, ◌+◌, ◌^◌, ℕ, ℤ, pos, ◌+ℤ◌, ◌-ℤ◌, neg_ℤ, negsuc, ◌≤ℤ◌, List, [], ◌∷◌, ◌++◌, map, sum_by, refl, sym, ap, ◌∙◌, arith, unsigned_abs}
+use Rattle.std.proofs.Common.{◌≡◌, ◌≤◌, ◌<◌, ◌+◌, ◌^◌, ℕ, ℤ, pos, ◌+ℤ◌, ◌-ℤ◌, neg_ℤ, negsuc, ◌≤ℤ◌, List, [], ◌∷◌, ◌++◌, map, sum_by, length, take, get_or, refl, sym, ap, ◌∙◌, arith, unsigned_abs}
 use Rattle.std.proofs.lemmas.Int.{ints, fits_signed_from_abs}
+use Rattle.std.proofs.lemmas.List.{take_more}
 use Rattle.std.proofs.lemmas.List.Sums.{sum_by-cons}
 use Rattle.std.specs.Int.{w64}
 use Rattle.plan_scores.specs.declared.score.Score.{Score}
@@ -34,6 +35,13 @@ add_scores-minus_scores a b = score_from_levels _ _ (omega (arith, ints)) (omega
 pub sum_of-append : (xs ys : List Score) → sum_of (xs ++ ys) ≡ add_scores (sum_of xs) (sum_of ys)
 sum_of-append [] ys = sym (zero-add_scores (sum_of ys))
 sum_of-append (x ∷ xs) ys = ap (add_scores x) (sum_of-append xs ys) ∙ sym (add_scores_assoc x (sum_of xs) (sum_of ys))
+
+-- one more score behind a list, and one more at the step of a loop
+pub sum_of_push : (xs : List Score) (x : Score) → sum_of (xs ++ x ∷ []) ≡ add_scores (sum_of xs) x
+sum_of_push xs x = sum_of-append xs (x ∷ []) ∙ ap (add_scores (sum_of xs)) (add_scores-zero x)
+
+pub sum_of-take : (xs : List Score) (k : ℕ) (d : Score) → k < length xs → sum_of (take (k + 1) xs) ≡ add_scores (sum_of (take k xs)) (get_or xs k d)
+sum_of-take xs k d h = ap sum_of (take_more xs k d h) ∙ sum_of_push (take k xs) (get_or xs k d)
 
 pub score_at-zero : (level : Level) → score_at level (pos 0) ≡ zero_score
 score_at-zero Hard = refl

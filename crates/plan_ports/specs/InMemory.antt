@@ -1,5 +1,5 @@
 -- What contracts see of a source, a sink and a shelf in memory.
-use Rattle.std.specs.Prelude.{◌≤◌, ◌+◌, ◌-◌, ◌^◌, ◌==◌, ◌||◌, ◌++◌, ℕ, List, Bool, false, Option, Some, None, All, length, drop, min, is_some, if◌then◌else◌, find, nat_lt}
+use Rattle.std.specs.Prelude.{option_map, ◌&&◌, ◌≤◌, ◌+◌, ◌-◌, ◌^◌, ◌==◌, ◌||◌, ◌++◌, ℕ, List, Bool, false, Option, Some, None, All, length, drop, min, is_some, if◌then◌else◌, find, nat_lt}
 use Rattle.std.specs.List.{list_any}
 use Rattle.std.specs.Str.{bytes_eq}
 use Rattle.plan_ports.specs.declared.memory_shelf.MemFile.{MemFile}
@@ -67,6 +67,18 @@ first_named name files = find (λ f. bytes_eq f.name.items name) files
 abbrev pub is_sound_file : Option MemFile → Bool
 is_sound_file None = false
 is_sound_file (Some f) = length f.fail.items == 0
+
+-- the bytes under a name, which are those of its first file
+abbrev pub bytes_under : List ℕ → ShelfView → Option (List ℕ)
+bytes_under name s = option_map (λ f. f.bytes.items) (first_named name s.files)
+
+-- no call is one of those that fail
+abbrev pub never_fails : CallsView → Bool
+never_fails c = length c.fail == 0
+
+-- no open fails, and the first file of the name is there and its takes all succeed
+abbrev pub is_sound_name : List ℕ → ShelfView → Bool
+is_sound_name name s = is_sound_file (first_named name s.files) && never_fails s.opens
 
 -- an open came, and is a fault where it is one of those that fail or the name is unknown
 abbrev pub after_open : List ℕ → ShelfView → ShelfView

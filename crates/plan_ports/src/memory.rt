@@ -1,6 +1,6 @@
 // A source and a sink in memory, which fail at the calls that they are told.
-ghost use Rattle.std.specs.Prelude.{◌≡◌, ◌≤◌, ◌<◌, ◌==◌, ◌↔◌, [], ◌++◌, true, false, length, take, drop, min, IsTrue, IfOk, OnOk, OnErr, IsOk, IsErr, IsErrOf};
-ghost use Rattle.plan_ports.specs.InMemory.{SourceView, SinkView, fresh_calls, fails_next, given, after_take, after_put};
+ghost use Rattle.std.specs.Prelude.{◌≡◌, ◌≤◌, ◌<◌, ◌↔◌, [], ◌++◌, true, length, take, drop, min, IsTrue, IfOk, OnErr, IsOk, IsErr, IsErrOf};
+ghost use Rattle.plan_ports.specs.InMemory.{SourceView, SinkView, fresh_calls, fails_next, never_fails, given, after_take, after_put};
 ghost use Rattle.plan_ports.specs.Outside.{Rose, Moves};
 
 use crate::calls::Calls;
@@ -55,16 +55,16 @@ impl Source for MemSource {
 
     ghost faults = { λ s. s.calls.faults };
 
-    ghost is_sound = { λ s. length s.calls.fail == 0 };
+    ghost is_sound = { λ s. never_fails s.calls };
 
     // The trait's clauses, then what only this source says.
     fn take(&mut self, buf: &mut [u8]) -> Result<usize, Failed>
         ensures within { IfOk result (λ n. n ≤ length buf.old) }
         ensures moves { IfOk result (λ n. Moves n self.old.left self.new.left buf.old buf.new) }
         ensures failed { OnErr result (Rose self.old.calls.faults self.new.calls.faults) }
-        ensures sound { (length self.old.calls.fail == 0) ≡ true → IsOk result × (self.new.calls.faults ≡ self.old.calls.faults) }
+        ensures sound { never_fails self.old.calls ≡ true → IsOk result × (self.new.calls.faults ≡ self.old.calls.faults) }
         ensures later { self.old.calls.faults ≤ self.new.calls.faults }
-        ensures same_sound { (length self.new.calls.fail == 0) ≡ (length self.old.calls.fail == 0) }
+        ensures same_sound { never_fails self.new.calls ≡ never_fails self.old.calls }
 
         // It fails exactly at the calls that it was told, and then gives nothing.
         ensures fails { IsErr result ↔ IsTrue (fails_next self.old.calls) }

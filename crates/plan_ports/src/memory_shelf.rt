@@ -1,6 +1,6 @@
 // Files in memory.
-ghost use Rattle.std.specs.Prelude.{◌≡◌, ◌≤◌, ◌==◌, ◌&&◌, ◌||◌, ◌↔◌, true, false, length, option_map, option_copied, IsTrue, is_none, IfSome, IfOk, IsErrOf, Some};
-ghost use Rattle.plan_ports.specs.InMemory.{ShelfView, EachGives, fresh_calls, first_named, is_sound_file, fails_next, after_open, after_close, opened};
+ghost use Rattle.std.specs.Prelude.{◌≡◌, ◌≤◌, ◌||◌, ◌↔◌, true, false, option_map, option_copied, Some, IsTrue, is_none, IfSome, IfOk, IsErrOf};
+ghost use Rattle.plan_ports.specs.InMemory.{ShelfView, EachGives, fresh_calls, first_named, bytes_under, is_sound_name, never_fails, fails_next, after_open, after_close, opened};
 ghost use Rattle.plan_ports.specs.Outside.{Rose};
 
 use crate::calls::Calls;
@@ -54,20 +54,19 @@ impl Shelf for MemShelf {
 
     ghost tells = { λ _. true };
 
-    ghost bytes_of = { λ s name. option_map (λ f. f.bytes.items) (first_named name s.files) };
+    ghost bytes_of = { λ s name. bytes_under name s };
 
-    ghost is_sound = { λ s name. is_sound_file (first_named name s.files) && (length s.opens.fail == 0) };
+    ghost is_sound = { λ s name. is_sound_name name s };
 
     ghost faults = { λ s. s.opens.faults };
 
     // The trait's clauses, then what only this shelf says.
     fn open(&mut self, name: &[u8]) -> Result<MemSource, PortFault>
-        ensures bytes { IfOk result (λ f. option_map (λ g. g.bytes.items) (first_named name.now self.old.files) ≡ Some f.left) }
+        ensures bytes { IfOk result (λ f. bytes_under name.now self.old ≡ Some f.left) }
         ensures fresh { IfOk result (λ f. f.calls.faults ≡ 0) }
-        ensures failed { IsErrOf result PortFault.Failed → Rose self.old.opens.faults self.new.opens.faults
-            × ((is_sound_file (first_named name.now self.old.files) && (length self.old.opens.fail == 0)) ≡ false) }
-        ensures sound { IfOk result (λ f. (is_sound_file (first_named name.now self.old.files) && (length self.old.opens.fail == 0)) ≡ true
-            → (length f.calls.fail == 0) ≡ true) }
+        ensures failed { IsErrOf result PortFault.Failed →
+            Rose self.old.opens.faults self.new.opens.faults × (is_sound_name name.now self.old ≡ false) }
+        ensures sound { IfOk result (λ f. is_sound_name name.now self.old ≡ true → never_fails f.calls ≡ true) }
         ensures later { self.old.opens.faults ≤ self.new.opens.faults }
 
         // It fails exactly at the opens that it was told and at unknown names.

@@ -1,5 +1,5 @@
 -- Edits of a plan: which are legal and doable, what they make of a plan, and what takes them back.
-use Rattle.std.specs.Prelude.{◌==◌, ◌&&◌, not, ℕ, Bool, false, IsTrue, List, [], ◌∷◌, ◌++◌, map, filter, fold, All, Option, None, is_some, nat_eq, slice_get, if◌then◌else◌}
+use Rattle.std.specs.Prelude.{◌≡◌, ◌==◌, ◌&&◌, not, ℕ, Bool, false, IsTrue, List, [], ◌∷◌, ◌++◌, map, filter, fold, All, Option, None, is_some, nat_eq, slice_get, if◌then◌else◌}
 use Rattle.std.specs.Option.{option_eq, option_map_or, option_and_then}
 use Rattle.std.specs.List.{list_all, list_any}
 use Rattle.std.specs.Ordering.{nat_cmp, is_lt, is_eq, then_cmp, on}
@@ -63,6 +63,11 @@ set_back plan set = record set { value = option_map_or (λ held. held) (held_by 
 -- the edit that takes a legal edit back: the same variables with their present values
 unfoldable pub inverse_of : PlanView → List Set → List Set
 inverse_of plan sets = map (set_back plan) sets
+
+-- one edit takes another back: it is legal after that, and gives the plan as it was
+pub record TakesBack (plan : PlanView) (sets back : List Set) : Type 0 where
+  pub legal : IsTrue (is_legal (applied plan sets) back)
+  pub restored : applied (applied plan sets) back ≡ plan
 
 -- an entity as a touch
 abbrev pub touch_of : Set → Touch

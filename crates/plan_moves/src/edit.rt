@@ -98,7 +98,8 @@ fn is_of(set: Option<&Set>, touch: Touch) -> bool
 
 impl Edit {
     ghost use Rattle.std.specs.Prelude.{◌≡◌, [], not, if◌then◌else◌, IfOk, OnErr};
-    ghost use Rattle.plan_moves.specs.Edits.{is_set_in, with_set, is_legal, is_doable, applied, inverse_of, touched_by};
+    ghost use Rattle.plan_moves.specs.Edits.{is_set_in, with_set, is_legal, is_doable, applied, inverse_of, TakesBack, touched_by};
+    ghost use Rattle.plan_facts.specs.Plan.{IsPlan};
 
     /// The edit that changes nothing.
     pub fn new(alloc: Global) -> Edit
@@ -149,7 +150,9 @@ impl Edit {
 
     /// The edit that takes this legal edit back: the same variables with their present values.
     pub fn inverse(&self, plan: &Plan) -> Result<Edit, Memory>
-        ensures { IfOk result (λ back. back ≡ inverse_of plan.now self.now) }
+        requires { IsTrue (is_legal plan.now self.now) }
+        ensures back { IfOk result (λ back. back ≡ inverse_of plan.now self.now) }
+        ensures takes_back { IsPlan plan.now → IfOk result (TakesBack plan.now self.now) }
     {
         let mut sets = Vec::with_capacity(*self.sets.allocator(), self.sets.len())?;
         for set in &self.sets {

@@ -1,7 +1,8 @@
-use Rattle.std.proofs.Common.{◌≡◌, ◌∙◌, ap, map, sym, arith}
+use Rattle.std.proofs.Common.{◌≡◌, ◌∙◌, ap, map, sym, subst, arith}
 use Rattle.std.proofs.lemmas.List.{take_all}
 use Rattle.plan_moves.specs.Edits.{set_back, AreInOrder, inverse_of}
 use Rattle.plan_moves.proofs.Order.{backs_in_order}
+use Rattle.plan_moves.proofs.Restored.{takes_back}
 use Rattle.plan_moves.proofs.edit.Edit.inverse.Goals as goal
 
 whole : (c : goal.After-loop-set) → c.loop-set.sets.items ≡ map (set_back c.args.plan.now) c.self.inside.sets.items
@@ -11,6 +12,11 @@ whole c =
 pub invariant_of-result : goal.invariant_of-result
 invariant_of-result c = rw (whole c) (backs_in_order c.args.plan.now c.self.inside.sets.items c.self.invariant)
 
-pub returns : goal.returns
+pub returns-clause-back : goal.returns-clause-back
 unfolding inverse_of
-returns c = whole c ∙ ap (map (set_back c.args.plan.now)) c.self.view_is
+returns-clause-back c = whole c ∙ ap (map (set_back c.args.plan.now)) c.self.view_is
+
+pub returns-clause-takes_back : goal.returns-clause-takes_back
+returns-clause-takes_back c = λ sound.
+    rw (returns-clause-back c)
+    (takes_back c.args.plan.now c.args.self.now sound (subst AreInOrder c.self.view_is c.self.invariant) c.requires)

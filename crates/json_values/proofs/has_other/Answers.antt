@@ -1,0 +1,9 @@
+use Rattle.std.proofs.Common.{sym, ◌∙◌}
+use Rattle.json_values.proofs.Reading.{has_other-keys, has_other-none}
+use Rattle.json_values.proofs.has_other.Goals as goal
+
+pub returns-in-Some : goal.returns-in-Some
+returns-in-Some c = c.has_other_key.ensures ∙ sym (has_other-keys c.args.names.now _ c.in-Some.members.now.entries c.in-Some.ensures)
+
+pub returns-in-None : goal.returns-in-None
+returns-in-None c = sym (has_other-none _ _ c.in-None.ensures)

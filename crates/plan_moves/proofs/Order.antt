@@ -52,9 +52,10 @@ All-back P (x ∷ xs) ys all = All-back P xs ys (All-tail P x (xs ++ ys) all)
 -- a set put between those before it and those after it keeps the order
 pub in_order_put : (xs ys : List Set) (set : Set) → AreInOrder (xs ++ ys) → All (λ other. Before other set) xs → All (Before set) ys → AreInOrder (xs ++ set ∷ ys)
 in_order_put [] ys set order before after = (after, order)
-in_order_put (x ∷ xs) ys set order before after =
-    ( All-append (Before x) xs (set ∷ ys) (All-front (Before x) xs ys order.0) (All-cons (Before x) set ys (All-head (λ other. Before other set) x xs before) (All-back (Before x) xs ys order.0))
-    , in_order_put xs ys set order.1 (All-tail (λ other. Before other set) x xs before) after)
+in_order_put (x ∷ xs) ys set order before after = (
+  All-append (Before x) xs (set ∷ ys) (All-front (Before x) xs ys order.0) (All-cons (Before x) set ys (All-head (λ other. Before other set) x xs before) (All-back (Before x) xs ys order.0)),
+  in_order_put xs ys set order.1 (All-tail (λ other. Before other set) x xs before) after,
+)
 
 filter_each : (p : Set → Bool) (xs : List Set) → All (λ x. p x ≡ true) xs → filter p xs ≡ xs
 filter_each p [] all = refl
@@ -95,14 +96,15 @@ pub record IsPut (sets : List Set) (set : Set) (place : ℕ) : Type 0 where
   pub new : is_set_in sets set ≡ false
 
 split_put : (xs ys sets : List Set) (set : Set) → sets ≡ xs ++ ys → AreInOrder sets → All (λ other. Before other set) xs → All (Before set) ys → AreInOrder (xs ++ set ∷ ys) × (with_set sets set ≡ xs ++ set ∷ ys) × (is_set_in sets set ≡ false)
-split_put xs ys sets set is order before after =
-    ( in_order_put xs ys set (subst AreInOrder is order) before after
-    , ap (λ zs. with_set zs set) is ∙ with_set_put xs ys set before after
-    , ap (λ zs. is_set_in zs set) is ∙ not_set_put xs ys set before after)
+split_put xs ys sets set is order before after = (
+  in_order_put xs ys set (subst AreInOrder is order) before after,
+  ap (λ zs. with_set zs set) is ∙ with_set_put xs ys set before after,
+  ap (λ zs. is_set_in zs set) is ∙ not_set_put xs ys set before after,
+)
 
 before_place : (sets : List Set) (set : Set) (place : ℕ) → AreInOrder sets → place ≤ length sets → (0 < place → is_lt (set_order set (get_or sets (place - 1) set)) ≡ false) → (0 < place → is_eq (set_order (get_or sets (place - 1) set) set) ≡ false) → All (λ other. Before other set) (take place sets)
 before_place sets set zero order within lt eq = All-nil (λ other. Before other set)
-before_place sets set (suc place) order within lt eq = 
+before_place sets set (suc place) order within lt eq =
     let e : suc place - 1 ≡ place = omega arith in
     before_up_to sets set place set order (omega arith)
     (before_settled set (get_or sets place set)
@@ -127,6 +129,7 @@ set_back_order plan one other = refl
 -- the sets that take sets in order back are in order
 pub backs_in_order : (plan : PlanView) (sets : List Set) → AreInOrder sets → AreInOrder (map (set_back plan) sets)
 backs_in_order plan [] order = tt
-backs_in_order plan (set ∷ sets) order =
-    ( All-map (Before (set_back plan set)) (set_back plan) sets (All-weaker (Before set) (λ later. Before (set_back plan set) (set_back plan later)) (λ later h. ap is_lt (set_back_order plan set later) ∙ h) sets order.0)
-    , backs_in_order plan sets order.1)
+backs_in_order plan (set ∷ sets) order = (
+  All-map (Before (set_back plan set)) (set_back plan) sets (All-weaker (Before set) (λ later. Before (set_back plan set) (set_back plan later)) (λ later h. ap is_lt (set_back_order plan set later) ∙ h) sets order.0),
+  backs_in_order plan sets order.1,
+)

@@ -5,3 +5,6 @@ mod edit;
 mod legal;
 
 pub use edit::{Edit, Set, Touch};
+
+#[cfg(test)]
+mod tests;

@@ -5,10 +5,6 @@ use std::alloc::Global;
 use std::process::Abort;
 use std::test::Fail;
 
-fn failed(_: Memory) -> &'static str {
-    "want of memory"
-}
-
 /// The live numbers and their rows, in order.
 fn contents(rt: &impl Abort, alloc: Global, store: &Store<u32>) -> Result<Vec<(u64, u32)>, Memory> {
     let mut all = Vec::new(alloc);
@@ -27,11 +23,11 @@ fn contents(rt: &impl Abort, alloc: Global, store: &Store<u32>) -> Result<Vec<(u
 #[test]
 fn a_rolled_back_trial_leaves_the_contents(rt: HostRuntime) -> Result<(), Fail> {
     let mut store = Store::new(rt.alloc());
-    let n = store.add(7).map_err(failed)?;
+    let n = store.add(7)?;
     store.begin();
     assert!(rt; store.live(n).is_some());
     store.kill(n);
-    let v = store.add(8).map_err(failed)?;
+    let v = store.add(8)?;
     assert_eq!(rt; store.live(v).copied(), Some(8));
     assert_eq!(rt; store.live(n).copied(), None);
     store.rollback();
@@ -45,16 +41,16 @@ fn a_rolled_back_trial_leaves_the_contents(rt: HostRuntime) -> Result<(), Fail> 
 fn rows_added_and_killed_in_one_trial_are_gone_after_it(rt: HostRuntime) -> Result<(), Fail> {
     let alloc = rt.alloc();
     let mut store = Store::new(alloc);
-    let v = store.add(1).map_err(failed)?;
+    let v = store.add(1)?;
     store.begin();
-    let u = store.add(2).map_err(failed)?;
+    let u = store.add(2)?;
     assert!(rt; store.live(u).is_some());
     store.kill(u);
     assert!(rt; store.live(v).is_some());
     store.kill(v);
-    store.add(3).map_err(failed)?;
+    store.add(3)?;
     store.rollback();
-    let left = contents(&rt, alloc, &store).map_err(failed)?;
+    let left = contents(&rt, alloc, &store)?;
     assert_eq!(rt; left.as_slice(), [(v, 1)].as_slice());
     Ok(())
 }
@@ -63,17 +59,17 @@ fn rows_added_and_killed_in_one_trial_are_gone_after_it(rt: HostRuntime) -> Resu
 fn a_committed_trial_stays_and_frees_its_killed_numbers(rt: HostRuntime) -> Result<(), Fail> {
     let alloc = rt.alloc();
     let mut store = Store::new(alloc);
-    let a = store.add(10).map_err(failed)?;
-    let b = store.add(20).map_err(failed)?;
+    let a = store.add(10)?;
+    let b = store.add(20)?;
     store.begin();
     assert!(rt; store.live(a).is_some());
     store.kill(a);
-    let c = store.add(30).map_err(failed)?;
+    let c = store.add(30)?;
     assert_ne!(rt; c, a, "a rollback could bring it back");
     store.commit();
-    let kept = contents(&rt, alloc, &store).map_err(failed)?;
+    let kept = contents(&rt, alloc, &store)?;
     assert_eq!(rt; kept.as_slice(), [(b, 20), (c, 30)].as_slice());
-    let d = store.add(40).map_err(failed)?;
+    let d = store.add(40)?;
     assert_eq!(rt; d, a, "the number of a killed row is used again");
     Ok(())
 }
@@ -82,7 +78,7 @@ fn a_committed_trial_stays_and_frees_its_killed_numbers(rt: HostRuntime) -> Resu
 fn numbers_past_the_words_of_the_set_are_found(rt: HostRuntime) -> Result<(), Fail> {
     let mut store = Store::new(rt.alloc());
     for row in 0..200u32 {
-        store.add(row).map_err(failed)?;
+        store.add(row)?;
     }
     for n in 0..199u64 {
         assert!(rt; store.live(n).is_some());
@@ -217,8 +213,8 @@ fn a_generated_run_agrees_with_plain_lists(rt: HostRuntime) -> Result<(), Fail> 
     let mut word = 88172645463325252;
     for _ in 0..100000u32 {
         word = drawn(word);
-        step(&rt, alloc, &mut store, &mut plain, word).map_err(failed)?;
+        step(&rt, alloc, &mut store, &mut plain, word)?;
     }
-    compare(&rt, alloc, &store, &plain).map_err(failed)?;
+    compare(&rt, alloc, &store, &plain)?;
     Ok(())
 }

@@ -1,0 +1,4 @@
+pub mod Books
+pub mod Entries
+pub mod Law
+pub mod Seats

@@ -1,6 +1,8 @@
 -- The plans that the calls of a plan lead to.
-use Rattle.std.specs.Prelude.{◌==◌, ◌+◌, ◌&&◌, not, ℕ, ℤ, Option, Some, None, List, [], ◌∷◌, ◌++◌, map, filter, zip, if◌then◌else◌, slice_set}
+use Rattle.std.specs.Prelude.{◌==◌, ◌+◌, ◌&&◌, not, ℕ, ℤ, Option, Some, None, option_map, List, [], ◌∷◌, ◌++◌, map, filter, zip, if◌then◌else◌, slice_set}
 use Rattle.plan_facts.specs.declared.record.Raw.{Raw}
+use Rattle.plan_facts.specs.declared.record.Rec.{Rec}
+use Rattle.plan_facts.specs.declared.record.Value.{Value}
 use Rattle.plan_facts.specs.Plan.{PlanView, ClassView, class_of, next_id_of}
 
 -- a plan with another class at this number
@@ -20,6 +22,23 @@ with_value plan class id var value =
 unfoldable pub with_field : PlanView → ℕ → ℕ → ℕ → ℤ → PlanView
 with_field plan class id field number =
     with_class plan class (with_record (class_of plan class) id (λ raw. record raw { fields = slice_set raw.fields field number }))
+
+-- a value once a field of a fact is set: changed where it is that fact
+abbrev pub value_with_field : ℕ → ℕ → ℕ → ℤ → ℕ → Value → Value
+value_with_field class id field number range value =
+    if (range == class) && (value.id == id) then record value { fields = slice_set value.fields field number } else value
+
+-- a resolved record with one of its variables set
+abbrev pub rec_with_value : ℕ → Option Value → Rec → Rec
+rec_with_value var value rec = record rec { planned = slice_set rec.planned var value }
+
+-- a resolved record, whose variables have these value classes, once a field of a fact is set
+abbrev pub rec_with_field : ℕ → ℕ → ℕ → ℤ → List ℕ → Rec → Rec
+rec_with_field class id field number ranges rec =
+    record rec {
+      fields = if (rec.class == class) && (rec.id == id) then slice_set rec.fields field number else rec.fields;
+      planned = map (λ pair. option_map (value_with_field class id field number pair.0) pair.1) (zip ranges rec.planned);
+    }
 
 -- a plan with one more fact, under the class's next id
 unfoldable pub with_fact : PlanView → ℕ → List ℤ → List (Option ℕ) → PlanView
@@ -45,9 +64,11 @@ record_let_go class id ranges raw = record raw { values = map (λ pair. let_go c
 abbrev pub class_let_go : ℕ → ℕ → ClassView → ClassView
 class_let_go class id view = record view { facts = map (record_let_go class id view.ranges) view.facts }
 
+-- a class without its record of this id
+abbrev pub without_record : ClassView → ℕ → ClassView
+without_record view id = record view { facts = filter (λ raw. not (raw.id == id)) view.facts }
+
 -- a plan without one fact: its record is gone, and each variable that held it is null
 unfoldable pub without_fact : PlanView → ℕ → ℕ → PlanView
 without_fact plan class id =
-    let old = class_of plan class in
-    let rest = slice_set plan.classes class (record old { facts = filter (λ raw. not (raw.id == id)) old.facts }) in
-    record plan { classes = map (class_let_go class id) rest }
+    record plan { classes = map (class_let_go class id) (slice_set plan.classes class (without_record (class_of plan class) id)) }

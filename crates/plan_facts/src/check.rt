@@ -8,6 +8,9 @@ use crate::fault::PlanFault;
 /// The greatest number that a field holds, and with a minus sign the least.
 pub const FIELD_LIMIT: i64 = 1_000_000_000;
 
+/// How many facts may ever be made.
+pub const FACT_LIMIT: u32 = 20_000;
+
 /// Knows which facts are live.
 pub trait LiveFacts {
     ghost live: { Self → ℕ → ℕ → Bool };

@@ -6,7 +6,7 @@ ghost use Rattle.plan_facts.specs.Listed.{is_listed, HasIds, HaveIds};
 ghost use Rattle.plan_facts.specs.PlanFaults.{record_fault, class_fault, record_values_fault, class_values_fault, ranges_of, class_with, plan_of, plan_fault, IsRefusal};
 ghost use Rattle.std.specs.Result.{result_err};
 
-use crate::check::{LiveFacts, check_fields, check_values};
+use crate::check::{FACT_LIMIT, LiveFacts, check_fields, check_values};
 use crate::fault::PlanFault;
 use crate::list::List;
 use crate::memory::Memory;
@@ -18,9 +18,6 @@ use std::collections::HashSet;
 
 /// The greatest id that a record may be given.
 const ID_LIMIT: u32 = 1_000_000_000;
-
-/// How many facts may ever be made.
-const FACT_LIMIT: usize = 20_000;
 
 /// The ids of the records of each class, before there is a plan.
 #[derive(Drop)]
@@ -145,7 +142,7 @@ fn count_facts(lists: &[List<Raw>]) -> Option<u32>
 {
     let mut count = 0;
     for raws in lists {
-        if raws.len() > FACT_LIMIT - count {
+        if raws.len() > FACT_LIMIT as usize - count {
             return None;
         }
         count += raws.len();

@@ -1,15 +1,18 @@
-ghost use Rattle.std.specs.Prelude.{◌≡◌, ◌<◌, IsTrue, is_none, if◌then◌else◌, IsSomeAnd, IfOk, OnOk, IfErr, None, MatchOption, List, length, map, zip, option_copied};
-ghost use Rattle.plan_facts.specs.Plan.{class_of, no_class, fact_of, ids_of, next_id_of, unplaced_of, record_of, resolved, held_value, range_of, is_value_of, IsPlan, IsClassOf, IsFieldNumber};
-ghost use Rattle.plan_facts.specs.PlanFaults.{plan_of, plan_fault, IsRefusal};
-ghost use Rattle.plan_facts.specs.PlanChanges.{with_value, with_field};
+ghost use Rattle.std.specs.Prelude.{◌≡◌, ◌<◌, IsTrue, is_none, if◌then◌else◌, IsSomeAnd, IfOk, OnOk, IfErr, OnErr, IfNone, ◌≤◌, None, All, MatchOption, List, length, map, zip, option_copied};
+ghost use Rattle.plan_facts.specs.Plan.{class_of, no_class, fact_of, is_live, ids_of, next_id_of, unplaced_of, record_of, resolved, held_value, range_of, is_value_of, IsPlan, IsClassOf, IsFieldNumber};
+ghost use Rattle.plan_facts.specs.PlanFaults.{plan_of, plan_fault, add_fault, IsRefusal};
+ghost use Rattle.plan_facts.specs.PlanChanges.{with_value, with_field, with_fact, without_fact, class_let_go};
+ghost use Rattle.std.specs.Result.{result_err};
+ghost use Rattle.std.specs.Bool.{OnTrue, OnFalse};
 
+use crate::check::{FACT_LIMIT, LiveFacts, check_fields, check_values};
 use crate::fault::PlanFault;
 use crate::list::List;
 use crate::listed::{check_lists, count_all_nulls, make_tables};
 use crate::memory::Memory;
 use crate::record::{Raw, Rec, Value};
 use crate::schema::Schema;
-use crate::table::Table;
+use crate::table::{Table, count_nulls};
 use std::alloc::Global;
 use std::marker::Model;
 
@@ -43,6 +46,26 @@ fn null_count(value: Option<u32>) -> u32
     }
 }
 
+/// Makes each variable null that holds the fact of this class with this id.
+fn let_go_in(tables: &mut Vec<Table>, class: u8, id: u32)
+    requires { All (λ table. All (λ raw. length raw.values ≡ length table.ranges) table.facts) tables.old.items }
+    ensures { tables.new.items ≡ map (class_let_go class id) tables.old.items }
+{
+    for table in tables.iter_mut() {
+        table.let_go(class, id);
+    }
+}
+
+impl LiveFacts for Plan {
+    ghost use Rattle.plan_facts.specs.Plan.{is_live};
+
+    ghost live = { λ plan class id. is_live plan class id };
+
+    fn is_live(&self, class: u8, id: u32) -> bool {
+        self.raw(class, id).is_some()
+    }
+}
+
 impl Plan {
     /// The plan of these records, one list for each class; or the first fault, which [`PlanFault`] orders.
     pub fn of(alloc: Global, schema: &Schema, lists: List<List<Raw>>) -> Result<Plan, PlanFault>
@@ -65,6 +88,7 @@ impl Plan {
     /// The records of a class; none where there is no such class.
     fn table(&self, class: u8) -> Option<&Table>
         ensures sound { IsPlan self.now }
+        ensures missing { IfNone result (length self.now.classes ≤ class) }
         ensures table { MatchOption result (class_of self.now class ≡ no_class) (λ table. (table.now ≡ class_of self.now class) × IsClassOf self.now table.now) }
     {
         self.tables.get(class as usize)
@@ -228,6 +252,68 @@ impl Plan {
     {
         let table = &mut self.tables[class as usize];
         table.set_field(id, field as usize, number);
+    }
+
+    /// The first fault of a new fact of a class, which must be there.
+    #[tactic(auto, unfolding(crate::specs::PlanFaults::add_fault))]
+    fn check_new(&self, class: u8, fields: &[i64], values: &[Option<u32>]) -> Result<(), PlanFault>
+        requires { class < length self.now.classes }
+        ensures fault { result_err result ≡ add_fault self.now class fields.now values.now }
+        ensures sound { IsPlan self.now }
+    {
+        if self.made >= FACT_LIMIT {
+            return Err(PlanFault::TooManyFacts);
+        }
+        let id = self.next_id(class);
+        let Some(table) = self.table(class) else {
+            unreachable!();
+        };
+        check_fields(class, id, table.fields(), fields)?;
+        check_values(self, class, id, table.ranges(), values)?;
+        Ok(())
+    }
+
+    /// Adds a fact to a class, which must be there, and gives its id, the class's next one; or the first fault of
+    /// these: too many facts, a wrong number of fields, a field out of range, a bad value. The plan stays as it was then.
+    pub fn add(
+        &mut self,
+        class: u8,
+        fields: List<i64>,
+        values: List<Option<u32>>,
+    ) -> Result<u32, PlanFault>
+        requires { class < length self.old.classes }
+        ensures id { IfOk result (λ id. id ≡ next_id_of self.old class) }
+        ensures ok { OnOk result (add_fault self.old class fields values ≡ None) }
+        ensures now { OnOk result (self.new ≡ with_fact self.old class fields values) }
+        ensures err { IfErr result (IsRefusal (add_fault self.old class fields values)) }
+        ensures unchanged { OnErr result (self.new ≡ self.old) }
+        ensures sound { IsPlan self.new }
+    {
+        self.check_new(class, fields.as_slice(), values.as_slice())?;
+        let id = self.next_id(class);
+        let nulls = count_nulls(values.as_slice()) as u32;
+        let table = &mut self.tables[class as usize];
+        table.add(Raw { id, fields, values })?;
+        self.made += 1;
+        self.unplaced += nulls;
+        Ok(id)
+    }
+
+    /// Removes a fact; each variable that held it becomes null. False, with nothing changed, where it isn't live.
+    pub fn remove(&mut self, class: u8, id: u32) -> bool
+        ensures live { result ≡ is_live self.old class id }
+        ensures removed { OnTrue result (self.new ≡ without_fact self.old class id) }
+        ensures unchanged { OnFalse result (self.new ≡ self.old) }
+        ensures sound { IsPlan self.new }
+    {
+        if !self.is_live(class, id) {
+            return false;
+        }
+        let table = &mut self.tables[class as usize];
+        table.remove(id);
+        let_go_in(&mut self.tables, class, id);
+        self.unplaced = count_all_nulls(&self.tables);
+        true
     }
 
     /// A copy of the plan.

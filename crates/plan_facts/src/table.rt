@@ -1,8 +1,8 @@
-ghost use Rattle.std.specs.Prelude.{◌≡◌, ◌≢◌, ◌<◌, ◌+◌, ℕ, List, ◌∷◌, [], ◌++◌, length, None, Some, MatchOption, IsSomeAnd, All, slice_index, slice_index_or, slice_set, option_copied, ◌^◌, max, fold, count_by, is_none, nat_eq, IfOk};
+ghost use Rattle.std.specs.Prelude.{◌≡◌, ◌≢◌, ◌<◌, ◌+◌, ℕ, List, ◌∷◌, [], ◌++◌, length, None, Some, MatchOption, IsSomeAnd, All, slice_index, slice_index_or, slice_set, option_copied, ◌^◌, max, fold, count_by, is_none, nat_eq, map, is_some, IsTrue, IfOk, OnOk, OnErr};
 ghost use Rattle.std.specs.List.{IsDistinct};
 ghost use Rattle.plan_facts.specs.Plan.{record_with_id, ids_in, nulls_in, AreIncreasing, IsPlaceOf};
 ghost use Rattle.plan_facts.specs.PlanFaults.{table_of};
-ghost use Rattle.plan_facts.specs.PlanChanges.{with_record};
+ghost use Rattle.plan_facts.specs.PlanChanges.{with_record, without_record, let_go, record_let_go, class_let_go};
 
 use crate::list::List;
 use crate::memory::Memory;
@@ -59,7 +59,7 @@ fn greatest_of(ids: &[u32]) -> u32
 }
 
 /// How many values are null.
-fn count_nulls(values: &[Option<u32>]) -> usize
+pub fn count_nulls(values: &[Option<u32>]) -> usize
     ensures { result ≡ count_by is_none values.now }
 {
     values.iter().filter(|value| value.is_none()).count()
@@ -80,6 +80,38 @@ fn set_number(raw: &mut Raw, field: usize, number: i64)
     ensures { raw.new ≡ record raw.old { fields = slice_set raw.old.fields field number } }
 {
     raw.fields.as_mut_slice()[field] = number;
+}
+
+/// What a variable with this value class holds once the fact of the class with this id is gone.
+fn held_after(class: u8, id: u32, range: u8, value: Option<u32>) -> Option<u32>
+    ensures { result ≡ let_go class id range value }
+{
+    match value {
+        Some(held) if range == class && held == id => None,
+        _ => value,
+    }
+}
+
+/// Makes each variable of a record null that holds the fact of this class with this id.
+fn let_go_one(ranges: &[u8], raw: &mut Raw, class: u8, id: u32)
+    requires { length raw.old.values ≡ length ranges.now }
+    ensures { raw.new ≡ record_let_go class id ranges.now raw.old }
+{
+    let values = raw.values.as_mut_slice();
+    for var in 0..ranges.len() {
+        let held = values[var];
+        values[var] = held_after(class, id, ranges[var], held);
+    }
+}
+
+/// Makes each variable of some records null that holds the fact of this class with this id.
+fn let_go_all(ranges: &[u8], facts: &mut Vec<Raw>, class: u8, id: u32)
+    requires { All (λ raw. length raw.values ≡ length ranges.now) facts.old.items }
+    ensures { facts.new.items ≡ map (record_let_go class id ranges.now) facts.old.items }
+{
+    for raw in facts.iter_mut() {
+        let_go_one(ranges, raw, class, id);
+    }
 }
 
 impl Table {
@@ -201,6 +233,42 @@ impl Table {
             }
             None => unreachable!(),
         }
+    }
+
+    /// Appends a record with a new greatest id. At want of memory the table stays as it was.
+    pub fn add(&mut self, raw: Raw) -> Result<(), Memory>
+        ensures ok { OnOk result (self.new ≡ record self.old { facts = self.old.facts ++ raw ∷ []; greatest = raw.id }) }
+        ensures err { OnErr result (self.new ≡ self.old) }
+    {
+        let id = raw.id;
+        self.ids.reserve(1)?;
+        self.facts.push(raw)?;
+        self.ids.push_reserved(id);
+        self.greatest = id;
+        Ok(())
+    }
+
+    /// Takes the record with this id out.
+    pub fn remove(&mut self, id: u32)
+        requires increasing { AreIncreasing (ids_in self.old.facts) }
+        requires there { IsTrue (is_some (record_with_id id self.old.facts)) }
+        ensures { self.new ≡ without_record self.old id }
+    {
+        match self.place(id) {
+            Some(place) => {
+                self.ids.remove(place);
+                self.facts.remove(place);
+            }
+            None => unreachable!(),
+        }
+    }
+
+    /// Makes each variable null that holds the fact of this class with this id.
+    pub fn let_go(&mut self, class: u8, id: u32)
+        requires { All (λ raw. length raw.values ≡ length self.old.ranges) self.old.facts }
+        ensures { self.new ≡ class_let_go class id self.old }
+    {
+        let_go_all(self.ranges.as_slice(), &mut self.facts, class, id);
     }
 
     /// A copy of the table.

@@ -326,3 +326,110 @@ fn sets_variables_and_fields(rt: HostRuntime) -> Result<(), Fail> {
     assert_eq!(rt; unmoved.values.as_slice(), [Some(9), None].as_slice());
     Ok(())
 }
+
+/// Adds a fact where its class is there.
+fn try_add(plan: &mut Plan, alloc: Global, class: u8, sketch: &Sketch) -> Result<u32, PlanFault> {
+    let fields = List::from_slice(alloc, sketch.1)?;
+    let values = List::from_slice(alloc, sketch.2)?;
+    if class >= plan.classes() {
+        return Err(PlanFault::ClassCount);
+    }
+    plan.add(class, fields, values)
+}
+
+#[test]
+fn adds_facts_under_new_ids(rt: HostRuntime) -> Result<(), Fail> {
+    let mut plan = timetable(rt.alloc())?;
+    let faults: &[(u8, Sketch, PlanFault)] = &[
+        (
+            LESSON,
+            (0, &[], &[Some(5)]),
+            PlanFault::FieldCount {
+                class: LESSON,
+                id: 3,
+            },
+        ),
+        (
+            LESSON,
+            (0, &[1_000_000_001], &[Some(5)]),
+            PlanFault::FieldRange {
+                class: LESSON,
+                id: 3,
+                field: 0,
+            },
+        ),
+        (
+            LESSON,
+            (0, &[1], &[Some(5)]),
+            PlanFault::BadValue {
+                class: LESSON,
+                id: 3,
+                var: 0,
+            },
+        ),
+        (
+            LESSON,
+            (0, &[1], &[Some(4)]),
+            PlanFault::BadValue {
+                class: LESSON,
+                id: 3,
+                var: 2,
+            },
+        ),
+    ];
+    for (class, sketch, fault) in faults {
+        let answer = try_add(&mut plan, rt.alloc(), *class, sketch);
+        assert_eq!(rt; answer.err(), Some(*fault));
+        assert_eq!(rt; plan.made(), 7);
+        assert_eq!(rt; plan.ids(LESSON), [1, 2].as_slice());
+    }
+    let steps: &[(u8, Sketch, u32, u32)] = &[
+        (LESSON, (0, &[1], &[Some(4), None]), 3, 4),
+        (SLOT, (0, &[2, 480], &[]), 1_000_000_001, 4),
+        (LESSON, (0, &[1], &[Some(1_000_000_001), Some(1)]), 4, 4),
+    ];
+    for (class, sketch, id, unplaced) in steps {
+        assert_eq!(rt; try_add(&mut plan, rt.alloc(), *class, sketch)?, *id);
+        assert_eq!(rt; plan.unplaced(), *unplaced);
+    }
+    assert_eq!(rt; plan.made(), 10);
+    let fourth = plan.raw(LESSON, 4).ok_or("no lesson 4")?;
+    assert_eq!(rt;
+        fourth.values.as_slice(),
+        [Some(1_000_000_001), Some(1)].as_slice()
+    );
+    assert!(rt; plan.remove(SLOT, 1_000_000_001));
+    assert_eq!(rt; plan.next_id(SLOT), 1_000_000_002);
+    assert_eq!(rt; plan.made(), 10);
+    Ok(())
+}
+
+#[test]
+fn adds_no_more_than_twenty_thousand(rt: HostRuntime) -> Result<(), Fail> {
+    let schema = lessons(rt.alloc())?;
+    let mut plan = Plan::of(rt.alloc(), &schema, many_slots(rt.alloc(), 19_999)?)?;
+    let room: &Sketch = &(0, &[7], &[]);
+    assert_eq!(rt; try_add(&mut plan, rt.alloc(), ROOM, room)?, 1);
+    assert!(rt; plan.remove(SLOT, 5));
+    let answer = try_add(&mut plan, rt.alloc(), ROOM, room);
+    assert_eq!(rt; answer.err(), Some(PlanFault::TooManyFacts));
+    Ok(())
+}
+
+#[test]
+fn removes_facts_from_the_variables(rt: HostRuntime) -> Result<(), Fail> {
+    let mut plan = timetable(rt.alloc())?;
+    assert!(rt; !plan.remove(SLOT, 5));
+    assert_eq!(rt; plan.unplaced(), 3);
+    assert!(rt; plan.remove(SLOT, 9));
+    assert!(rt; !plan.remove(SLOT, 9));
+    assert_eq!(rt; plan.ids(SLOT), [4, 1_000_000_000].as_slice());
+    assert_eq!(rt; plan.unplaced(), 4);
+    let second = plan.raw(LESSON, 2).ok_or("no lesson 2")?;
+    assert_eq!(rt; second.values.as_slice(), [None, None].as_slice());
+    assert!(rt; plan.remove(LESSON, 1));
+    assert_eq!(rt; plan.unplaced(), 2);
+    assert_eq!(rt; plan.made(), 7);
+    assert!(rt; !plan.remove(3, 1));
+    Ok(())
+}

@@ -1,0 +1,5 @@
+use Rattle.std.proofs.lemmas.Bool.{and_parts}
+use Rattle.plan_words.proofs.parsers.parsed.Goals as goal
+
+pub returns-in-Ok : goal.returns-in-Ok
+returns-in-Ok c = (c.in-Ok.ensures.matches (and_parts _ _ c.requires).0).0

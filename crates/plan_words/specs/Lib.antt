@@ -1,0 +1,9 @@
+pub mod Items
+pub mod Sorted
+pub mod Adding
+pub mod Line
+pub mod Values
+pub mod Verb
+pub mod Command
+pub mod Canonical
+pub mod Parsers

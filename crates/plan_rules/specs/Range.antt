@@ -3,6 +3,7 @@ use Rattle.std.specs.Prelude.{◌==◌, ◌≤◌, ◌-◌, ◌*◌, ◌/◌, �
 use Rattle.std.specs.Option.{option_or, option_map_or}
 use Rattle.std.specs.List.{list_any}
 use Rattle.plan_facts.specs.First.{first_fault}
+use Rattle.plan_facts.specs.Plan.{PlanView}
 use Rattle.plan_rules.specs.declared.rule.Head.{Head}
 use Rattle.plan_rules.specs.declared.rule.Head.TheVariants as head
 use Rattle.plan_rules.specs.declared.rule.Node.{Node}
@@ -11,6 +12,10 @@ use Rattle.plan_rules.specs.declared.rule.RuleDef.{RuleDef}
 use Rattle.plan_rules.specs.Rows.{Facts}
 use Rattle.plan_rules.specs.declared.fault.RangeFault.{RangeFault}
 use Rattle.plan_rules.specs.declared.fault.RangeFault.TheVariants.{RowsBound, ScoreRange}
+
+-- how many live facts each class of a plan has
+abbrev pub sizes_of : PlanView → List ℕ
+sizes_of plan = map (λ class. length class.facts) plan.classes
 
 -- the live facts of a class
 abbrev pub size_of : List ℕ → ℕ → ℕ

@@ -1,0 +1,6 @@
+//! Why a problem's bytes are refused.
+#![tactic(auto)]
+
+mod fault;
+
+pub use fault::ProblemFault;

@@ -1,0 +1,4 @@
+pub mod Placing
+pub mod Posed
+pub mod Run
+pub mod RunLines

@@ -5,7 +5,7 @@ ghost use Rattle.plan_scores.specs.Text.{score_text, plan_score_text};
 use crate::parts::{
     put, put_entity, put_fact, put_number, put_plan_score, put_row, put_score, rule_name,
 };
-use plan_facts::{ClassDef, List, Memory, Text};
+use plan_facts::{List, Memory, Schema, Text};
 use plan_rules::{Part, Row, RuleDef};
 use plan_scores::{PlanScore, Score};
 
@@ -90,12 +90,12 @@ fn put_leg(out: &mut Vec<u8>, boundary: u32) -> Result<(), Memory>
 }
 
 /// Appends the line of the entity at which placing stopped.
-fn put_stuck(out: &mut Vec<u8>, classes: &[ClassDef], class: u8, id: u32) -> Result<(), Memory>
-    ensures ok { OnOk result (out.new.items ≡ out.old.items ++ (codes "stuck " ++ fact_text classes.now class id ++ codes "\n")) }
+fn put_stuck(out: &mut Vec<u8>, schema: &Schema, class: u8, id: u32) -> Result<(), Memory>
+    ensures ok { OnOk result (out.new.items ≡ out.old.items ++ (codes "stuck " ++ fact_text schema.now class id ++ codes "\n")) }
     ensures err { OnErr result (take (length out.old.items) out.new.items ≡ out.old.items) }
 {
     put(out, b"stuck ")?;
-    put_fact(out, classes, class, id)?;
+    put_fact(out, schema, class, id)?;
     put(out, b"\n")
 }
 
@@ -103,16 +103,16 @@ fn put_stuck(out: &mut Vec<u8>, classes: &[ClassDef], class: u8, id: u32) -> Res
 fn put_valued(
     out: &mut Vec<u8>,
     word: &[u8],
-    classes: &[ClassDef],
+    schema: &Schema,
     class: u8,
     id: u32,
     values: &[Option<u32>],
 ) -> Result<(), Memory>
-    ensures ok { OnOk result (out.new.items ≡ out.old.items ++ (word.now ++ entity_text classes.now class id values.now)) }
+    ensures ok { OnOk result (out.new.items ≡ out.old.items ++ (word.now ++ entity_text schema.now class id values.now)) }
     ensures err { OnErr result (take (length out.old.items) out.new.items ≡ out.old.items) }
 {
     put(out, word)?;
-    put_entity(out, classes, class, id, values)
+    put_entity(out, schema, class, id, values)
 }
 
 /// Appends the line of a rule.
@@ -130,29 +130,24 @@ fn put_rule(out: &mut Vec<u8>, name: &[u8], count: u64, impact: &Score) -> Resul
 }
 
 /// Appends the line of a match.
-fn put_match(
-    out: &mut Vec<u8>,
-    classes: &[ClassDef],
-    impact: &Score,
-    row: &[Part],
-) -> Result<(), Memory>
-    ensures ok { OnOk result (out.new.items ≡ out.old.items ++ (codes "match " ++ score_text impact.now ++ row_text classes.now row.now ++ codes "\n")) }
+fn put_match(out: &mut Vec<u8>, schema: &Schema, impact: &Score, row: &[Part]) -> Result<(), Memory>
+    ensures ok { OnOk result (out.new.items ≡ out.old.items ++ (codes "match " ++ score_text impact.now ++ row_text schema.now row.now ++ codes "\n")) }
     ensures err { OnErr result (take (length out.old.items) out.new.items ≡ out.old.items) }
 {
     put(out, b"match ")?;
     put_score(out, impact)?;
-    put_row(out, classes, row)?;
+    put_row(out, schema, row)?;
     put(out, b"\n")
 }
 
 /// Appends the text of a line, or for want of memory a front of it.
 fn append_line(
-    classes: &[ClassDef],
+    schema: &Schema,
     rules: &[RuleDef],
     line: &Line,
     out: &mut Vec<u8>,
 ) -> Result<(), Memory>
-    ensures ok { OnOk result (out.new.items ≡ out.old.items ++ line_text classes.now rules.now line.now) }
+    ensures ok { OnOk result (out.new.items ≡ out.old.items ++ line_text schema.now rules.now line.now) }
     ensures err { OnErr result (take (length out.old.items) out.new.items ≡ out.old.items) }
 {
     match line {
@@ -164,14 +159,14 @@ fn append_line(
             values,
             score,
         } => {
-            put_valued(out, b"place ", classes, *class, *id, values.as_slice())?;
+            put_valued(out, b"place ", schema, *class, *id, values.as_slice())?;
             put_scored(out, b" ", score)
         }
-        Line::Stuck { class, id } => put_stuck(out, classes, *class, *id),
+        Line::Stuck { class, id } => put_stuck(out, schema, *class, *id),
         Line::Start(score) => put_scored(out, b"start ", score),
         Line::Best(score) => put_scored(out, b"best ", score),
         Line::Entity { class, id, values } => {
-            put_valued(out, b"", classes, *class, *id, values.as_slice())?;
+            put_valued(out, b"", schema, *class, *id, values.as_slice())?;
             put(out, b"\n")
         }
         Line::Rule {
@@ -179,7 +174,7 @@ fn append_line(
             count,
             impact,
         } => put_rule(out, rule_name(rules, *rule), *count, impact),
-        Line::Match { impact, row } => put_match(out, classes, impact, row.parts()),
+        Line::Match { impact, row } => put_match(out, schema, impact, row.parts()),
         Line::End => put(out, b"end\n"),
         Line::Total(score) => put_scored(out, b"score ", score),
     }
@@ -187,16 +182,16 @@ fn append_line(
 
 /// Appends the text of a line. For want of memory nothing is appended.
 pub fn write_line(
-    classes: &[ClassDef],
+    schema: &Schema,
     rules: &[RuleDef],
     line: &Line,
     out: &mut Vec<u8>,
 ) -> Result<(), Memory>
-    ensures ok { OnOk result (out.new.items ≡ out.old.items ++ line_text classes.now rules.now line.now) }
+    ensures ok { OnOk result (out.new.items ≡ out.old.items ++ line_text schema.now rules.now line.now) }
     ensures err { OnErr result (out.new.items ≡ out.old.items) }
 {
     let start = out.len();
-    let written = append_line(classes, rules, line, out);
+    let written = append_line(schema, rules, line, out);
     if written.is_err() {
         out.truncate(start);
     }

@@ -3,7 +3,7 @@ ghost use Rattle.plan_reports.specs.Lines.{class_name, variables_of, rule_name, 
 ghost use Rattle.plan_scores.specs.Text.{score_text, plan_score_text};
 
 use itoa::Buffer;
-use plan_facts::{ClassDef, Memory, VarDef};
+use plan_facts::{Memory, Schema, VarDef};
 use plan_rules::{Part, RuleDef};
 use plan_scores::{PlanScore, Score};
 
@@ -41,20 +41,20 @@ pub fn put_plan_score(out: &mut Vec<u8>, score: &PlanScore) -> Result<(), Memory
 }
 
 /// The name of a class; no bytes where there is no such class.
-fn class_name(classes: &[ClassDef], class: u8) -> &[u8]
-    ensures { result.now ≡ class_name classes.now class }
+fn class_name(schema: &Schema, class: u8) -> &[u8]
+    ensures { result.now ≡ class_name schema.now class }
 {
-    match classes.get(class as usize) {
+    match schema.class(class) {
         Some(class) => class.name.as_slice(),
         None => b"",
     }
 }
 
 /// The variables of a class; none where there is no such class.
-fn variables(classes: &[ClassDef], class: u8) -> &[VarDef]
-    ensures { result.now ≡ variables_of classes.now class }
+fn variables(schema: &Schema, class: u8) -> &[VarDef]
+    ensures { result.now ≡ variables_of schema.now class }
 {
-    match classes.get(class as usize) {
+    match schema.class(class) {
         Some(class) => class.vars.as_slice(),
         None => &[],
     }
@@ -71,11 +71,11 @@ pub fn rule_name(rules: &[RuleDef], rule: u8) -> &[u8]
 }
 
 /// Appends a fact: its class and id.
-pub fn put_fact(out: &mut Vec<u8>, classes: &[ClassDef], class: u8, id: u32) -> Result<(), Memory>
-    ensures ok { OnOk result (out.new.items ≡ out.old.items ++ fact_text classes.now class id) }
+pub fn put_fact(out: &mut Vec<u8>, schema: &Schema, class: u8, id: u32) -> Result<(), Memory>
+    ensures ok { OnOk result (out.new.items ≡ out.old.items ++ fact_text schema.now class id) }
     ensures err { OnErr result (take (length out.old.items) out.new.items ≡ out.old.items) }
 {
-    put(out, class_name(classes, class))?;
+    put(out, class_name(schema, class))?;
     put(out, b"#")?;
     put_number(out, u64::from(id))
 }
@@ -121,37 +121,37 @@ fn put_variables(out: &mut Vec<u8>, vars: &[VarDef], values: &[Option<u32>]) -> 
 /// Appends an entity with the value of each variable.
 pub fn put_entity(
     out: &mut Vec<u8>,
-    classes: &[ClassDef],
+    schema: &Schema,
     class: u8,
     id: u32,
     values: &[Option<u32>],
 ) -> Result<(), Memory>
-    ensures ok { OnOk result (out.new.items ≡ out.old.items ++ entity_text classes.now class id values.now) }
+    ensures ok { OnOk result (out.new.items ≡ out.old.items ++ entity_text schema.now class id values.now) }
     ensures err { OnErr result (take (length out.old.items) out.new.items ≡ out.old.items) }
 {
-    put_fact(out, classes, class, id)?;
-    put_variables(out, variables(classes, class), values)
+    put_fact(out, schema, class, id)?;
+    put_variables(out, variables(schema, class), values)
 }
 
 /// Appends a part of a row after a space.
-fn put_part(out: &mut Vec<u8>, classes: &[ClassDef], part: &Part) -> Result<(), Memory>
-    ensures ok { OnOk result (out.new.items ≡ out.old.items ++ part_text classes.now part.now) }
+fn put_part(out: &mut Vec<u8>, schema: &Schema, part: &Part) -> Result<(), Memory>
+    ensures ok { OnOk result (out.new.items ≡ out.old.items ++ part_text schema.now part.now) }
     ensures err { OnErr result (take (length out.old.items) out.new.items ≡ out.old.items) }
 {
     put(out, b" ")?;
     match part {
-        Part::Fact(rec) => put_fact(out, classes, rec.class, rec.id),
+        Part::Fact(rec) => put_fact(out, schema, rec.class, rec.id),
         Part::Num(number) => put(out, Buffer::new().format(*number).as_bytes()),
     }
 }
 
 /// Appends the parts of a row.
-pub fn put_row(out: &mut Vec<u8>, classes: &[ClassDef], row: &[Part]) -> Result<(), Memory>
-    ensures ok { OnOk result (out.new.items ≡ out.old.items ++ row_text classes.now row.now) }
+pub fn put_row(out: &mut Vec<u8>, schema: &Schema, row: &[Part]) -> Result<(), Memory>
+    ensures ok { OnOk result (out.new.items ≡ out.old.items ++ row_text schema.now row.now) }
     ensures err { OnErr result (take (length out.old.items) out.new.items ≡ out.old.items) }
 {
     for part in row {
-        put_part(out, classes, part)?;
+        put_part(out, schema, part)?;
     }
     Ok(())
 }

@@ -1,5 +1,5 @@
 use super::*;
-use plan_facts::{ClassDef, FieldDef, Kind, List, Memory, Rec, Text, VarDef};
+use plan_facts::{ClassDef, FieldDef, Kind, List, Memory, Rec, Schema, Text, VarDef};
 use plan_rules::{Head, Part, Row, RuleDef};
 use plan_scores::{Level, PlanScore, Score};
 use std::alloc::Global;
@@ -30,12 +30,12 @@ fn class(alloc: Global, name: &str, vars: &[(&str, u8)]) -> Result<ClassDef, Mem
 }
 
 /// Timeslots, rooms and lessons, which have a slot and a room.
-fn classes(alloc: Global) -> Result<List<ClassDef>, Memory> {
+fn schema(alloc: Global) -> Result<Schema, Fail> {
     let mut classes = List::new(alloc);
     classes.push(class(alloc, "timeslot", &[])?)?;
     classes.push(class(alloc, "room", &[])?)?;
     classes.push(class(alloc, "lesson", &[("slot", 0), ("room", 1)])?)?;
-    Ok(classes)
+    Ok(Schema::build(classes)?)
 }
 
 fn rules(alloc: Global) -> Result<List<RuleDef>, Memory> {
@@ -118,11 +118,11 @@ fn lines(alloc: Global) -> Result<List<Line>, Memory> {
 #[test]
 fn each_line_has_its_text(rt: HostRuntime) -> Result<(), Fail> {
     let alloc = rt.alloc();
-    let classes = classes(alloc)?;
+    let schema = schema(alloc)?;
     let rules = rules(alloc)?;
     let mut out = Vec::new(alloc);
     for line in lines(alloc)?.as_slice() {
-        write_line(classes.as_slice(), rules.as_slice(), line, &mut out)?;
+        write_line(&schema, rules.as_slice(), line, &mut out)?;
     }
     let wanted =
         b"run timetable\nleg 0\nplace lesson#1 slot=1 room=2 -2init/0hard/0medium/0soft\nstuck lesson#2\nstart -1hard/0medium/0soft\nbest -1hard/0medium/0soft\nlesson#2 slot=- room=1\nrule room_conflict 1 -1hard/0medium/0soft\nmatch -1hard/0medium/0soft lesson#1 -7\nend\nscore -2init/0hard/0medium/0soft\n";

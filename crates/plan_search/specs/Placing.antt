@@ -1,5 +1,5 @@
 -- First fit: entities are placed in order, each once, by the first best of all combinations of values.
-use Rattle.std.specs.Prelude.{ℕ, Bool, nat_lt, List, [], ◌∷◌, map, filter, flat_map, length, Option, Some, None, is_none, if◌then◌else◌}
+use Rattle.std.specs.Prelude.{ℕ, ◌==◌, Bool, List, [], ◌∷◌, map, filter, flat_map, length, Option, Some, None, is_none, if◌then◌else◌}
 use Rattle.std.specs.Option.{option_map_or}
 use Rattle.std.specs.List.{list_any, enumerate_from}
 use Rattle.plan_scores.specs.declared.plan_score.PlanScore.{PlanScore}
@@ -16,9 +16,9 @@ use Rattle.plan_search.specs.declared.placed.Placed.{Placed}
 abbrev pub entity_of : ℕ → Raw → Entity
 entity_of class raw = record { class = class; id = raw.id; values = raw.values }
 
--- the entities of a class: its records, where it has variables
+-- the entities of a class: its records, but none where it has no variables
 abbrev pub class_entities : ℕ → ClassView → List Entity
-class_entities class view = if nat_lt 0 (length view.ranges) then map (entity_of class) view.facts else []
+class_entities class view = if length view.ranges == 0 then [] else map (entity_of class) view.facts
 
 -- all entities of a plan: entity classes in schema order, in each the ids increasing
 unfoldable pub entities_of : PlanView → List Entity

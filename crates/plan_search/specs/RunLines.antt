@@ -1,6 +1,7 @@
 -- The lines that a command prints.
 use Rattle.std.specs.Prelude.{ℕ, List, [], ◌∷◌, ◌++◌, Option, Some, None, map, flat_map, length}
 use Rattle.std.specs.List.{enumerate_from}
+use Rattle.plan_scores.specs.declared.plan_score.PlanScore.{PlanScore}
 use Rattle.plan_facts.specs.Plan.{PlanView, records_of}
 use Rattle.plan_rules.specs.declared.row.Match.{Match}
 use Rattle.plan_rules.specs.Totals.{all_matches, impact_sum}
@@ -60,12 +61,16 @@ abbrev pub matches_in : Posed → PlanView → List (List Match)
 matches_in posed plan = all_matches posed.meaning (records_of plan) posed.rules posed.weights
 
 -- the lines of a best plan: its score, its entities, its rules with their matches
-abbrev pub best_lines : Posed → PlanView → List Line
-best_lines posed plan = line.Best (plan_score posed plan) ∷ entity_lines plan ++ matches_lines (matches_in posed plan) ++ line.End ∷ []
+abbrev pub best_lines : PlanScore → PlanView → List (List Match) → List Line
+best_lines score plan matches = line.Best score ∷ entity_lines plan ++ matches_lines matches ++ line.End ∷ []
+
+-- the lines of a posed problem's best plan
+abbrev pub best_lines_of : Posed → PlanView → List Line
+best_lines_of posed plan = best_lines (plan_score posed plan) plan (matches_in posed plan)
 
 -- the lines of a run
 abbrev pub run_lines : Posed → List Leg → List Line
-run_lines posed legs = line.Run posed.name ∷ flat_map leg_lines legs ++ best_lines posed (best_plan posed.plan legs)
+run_lines posed legs = line.Run posed.name ∷ flat_map leg_lines legs ++ best_lines_of posed (best_plan posed.plan legs)
 
 -- the text of some lines under the posed problem's names
 abbrev pub text_of : Posed → List Line → List ℕ
@@ -75,6 +80,10 @@ text_of posed lines = lines_text posed.classes posed.rules lines
 unfoldable pub solve_text : Posed → List ℕ
 solve_text posed = text_of posed (run_lines posed (legs_of posed))
 
+-- the lines of a plan's score: the score, and each rule
+abbrev pub score_lines : PlanScore → List (List Match) → List Line
+score_lines score matches = line.Total score ∷ sums_lines matches ++ line.End ∷ []
+
 -- what `score` prints: the score of the plan as read, and each rule
 unfoldable pub score_text : Posed → List ℕ
-score_text posed = text_of posed (line.Total (plan_score posed posed.plan) ∷ sums_lines (matches_in posed posed.plan) ++ line.End ∷ [])
+score_text posed = text_of posed (score_lines (plan_score posed posed.plan) (matches_in posed posed.plan))

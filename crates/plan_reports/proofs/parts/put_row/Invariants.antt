@@ -4,4 +4,4 @@ use Rattle.plan_reports.proofs.parts.put_row.Given as goal
 
 -- the parts so far are written
 abbrev pub invariant-loop-part : goal.invariant-loop-part
-invariant-loop-part l = l.out.items ≡ l.initial.out.items ++ row_text l.classes (take l.part-index l.row)
+invariant-loop-part l = l.out.items ≡ l.initial.out.items ++ row_text l.schema (take l.part-index l.row)

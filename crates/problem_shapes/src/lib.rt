@@ -7,3 +7,6 @@ mod shape;
 
 pub use record::{id_in, records_of};
 pub use shape::check_shapes;
+
+#[cfg(test)]
+mod tests;

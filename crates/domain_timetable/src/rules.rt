@@ -15,10 +15,18 @@ use plan_rules::{Collect, Head, Joiner, Node, RuleDef};
 use plan_scores::Level;
 use std::alloc::Global;
 
-/// The timetable's rules. Rules over its schema with all its closures accept them.
+/// The timetable's rules, which are accepted over its four classes where all its closures are handed in, in order.
 pub fn defs(alloc: Global) -> Result<List<RuleDef>, Memory>
     ensures value { IfOk result (λ defs. defs ≡ timetable_rules) }
-    ensures accepted { rules_fault 4 timetable_numbers timetable_rules ≡ None }
+    ensures accepted { IfOk result (λ defs. rules_fault 4 timetable_numbers defs ≡ None) }
+{
+    let defs = listed(alloc)?;
+    Ok(defs)
+}
+
+/// The rules, in order.
+fn listed(alloc: Global) -> Result<List<RuleDef>, Memory>
+    ensures { IfOk result (λ defs. defs ≡ timetable_rules) }
 {
     let mut defs = List::new(alloc);
     defs.push(room_conflict(alloc)?)?;

@@ -18,10 +18,6 @@ is_soon_after most one other = int_le (pos 0) (other -ℤ one) && int_le (other 
 abbrev pub is_above : ℤ → ℤ → Bool
 is_above one other = int_lt other one
 
--- the first number is above the second by more than so much
-abbrev pub is_above_by : ℕ → ℤ → ℤ → Bool
-is_above_by margin one other = int_lt (pos margin) (one -ℤ other)
-
 -- the numbers differ
 abbrev pub are_different : ℤ → ℤ → Bool
 are_different one other = not (int_eq one other)

@@ -7,7 +7,7 @@ mod rows;
 mod tables;
 
 pub use numbers::{
-    are_different, clipped_excess, is_above, is_above_by, is_soon_after, key_or_zero,
+    are_different, clipped_excess, is_above, is_soon_after, key_or_zero,
 };
 pub use rows::{field_at, held_field_at, held_id_at, id_at, number_at};
 pub use tables::{class, penalty, reward};

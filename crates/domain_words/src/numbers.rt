@@ -1,6 +1,6 @@
 ghost use Rattle.std.specs.Prelude.{◌≡◌, ◌≤◌};
 ghost use Rattle.plan_rules.specs.Meaning.{IsKeyNumber};
-ghost use Rattle.domain_words.specs.Numbers.{both, clipped_excess, is_above, is_above_by, is_soon_after, are_different, key_or_zero};
+ghost use Rattle.domain_words.specs.Numbers.{both, clipped_excess, is_above, is_soon_after, are_different, key_or_zero};
 
 /// Whether both numbers are there and the first is above the second.
 pub fn is_above(one: Option<i64>, other: Option<i64>) -> bool
@@ -31,16 +31,6 @@ pub fn is_soon_after(most: u16, one: Option<i64>, other: Option<i64>) -> bool
             let gap = other.saturating_sub(one);
             0 <= gap && gap <= i64::from(most)
         }
-        _ => false,
-    }
-}
-
-/// Whether both numbers are there and the first is above the second by more than `margin`.
-pub fn is_above_by(margin: u16, one: Option<i64>, other: Option<i64>) -> bool
-    ensures { result ≡ both (is_above_by margin) one other }
-{
-    match (one, other) {
-        (Some(one), Some(other)) => one.saturating_sub(other) > i64::from(margin),
         _ => false,
     }
 }

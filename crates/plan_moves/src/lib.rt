@@ -3,8 +3,10 @@
 
 mod edit;
 mod legal;
+mod maker;
 
 pub use edit::{Edit, Set, Touch};
+pub use maker::{MoveMaker, make_by};
 
 #[cfg(test)]
 mod tests;

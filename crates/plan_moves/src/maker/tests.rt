@@ -1,0 +1,47 @@
+ghost use Rattle.std.specs.Prelude.{◌==◌, if◌then◌else◌, [], ◌∷◌, Some, None, slice_index};
+
+use super::*;
+use crate::edit::Set;
+use plan_facts::{List, Schema};
+use std::test::Fail;
+
+/// Takes away the value of the fact whose id is the first word; at word 0 it makes nothing.
+#[derive(Drop)]
+struct Clears;
+
+impl MoveMaker for Clears {
+    ghost made = { λ _ _ words. if slice_index words 0 == 0 then None else Some (record { class = 0; id = slice_index words 0; var = 0; value = None } ∷ []) };
+
+    fn make(&self, _: &Plan, words: &[u32; 8], into: &mut Edit) -> Result<bool, Memory> {
+        let id = words[0];
+        if id == 0 {
+            return Ok(false);
+        }
+        into.put(cleared(id))
+    }
+}
+
+fn cleared(id: u32) -> Set
+    ensures { result ≡ record { class = 0; id = id; var = 0; value = None } }
+{
+    Set {
+        class: 0,
+        id,
+        var: 0,
+        value: None,
+    }
+}
+
+#[test]
+fn a_maker_in_a_box_makes_an_edit_or_none(rt: HostRuntime) -> Result<(), Fail> {
+    let alloc = rt.alloc();
+    let schema = Schema::build(List::new(alloc))?;
+    let plan = Plan::of(alloc, &schema, List::new(alloc))?;
+    let maker: Box<dyn MoveMaker> = Box::new(alloc, Clears)?;
+    let edit = make_by(alloc, &maker, &plan, &[7, 0, 0, 0, 0, 0, 0, 0])?;
+    let edit = edit.ok_or("no edit")?;
+    assert_eq!(rt; edit.sets(), [cleared(7)].as_slice());
+    let none = make_by(alloc, &maker, &plan, &[0, 7, 7, 7, 7, 7, 7, 7])?;
+    assert!(rt; none.is_none());
+    Ok(())
+}

@@ -1,0 +1,4 @@
+pub mod Closures
+pub mod Names
+pub mod Shifts
+pub mod Tables

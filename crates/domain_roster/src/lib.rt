@@ -1,0 +1,13 @@
+//! The roster: shifts get a worker.
+#![tactic(auto)]
+
+mod classes;
+mod closures;
+mod names;
+mod rules;
+mod shifts;
+
+pub use classes::schema;
+pub use closures::{key_value, test_value, weight_value};
+pub use names::{CAP, KEYS, TESTS, WEIGHERS};
+pub use rules::defs;

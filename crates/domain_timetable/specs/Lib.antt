@@ -1,0 +1,4 @@
+pub mod Closures
+pub mod Lessons
+pub mod Names
+pub mod Tables

@@ -1,0 +1,13 @@
+//! The timetable: lessons get a timeslot and a room.
+#![tactic(auto)]
+
+mod classes;
+mod closures;
+mod lessons;
+mod names;
+mod rules;
+
+pub use classes::schema;
+pub use closures::{key_value, test_value, weight_value};
+pub use names::{CAP, KEYS, TESTS, WEIGHERS};
+pub use rules::defs;

@@ -1,0 +1,2 @@
+pub mod ListReads
+pub mod Walks

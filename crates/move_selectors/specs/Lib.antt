@@ -1,0 +1,5 @@
+pub mod Picks
+pub mod Entities
+pub mod Pillars
+pub mod Sets
+pub mod Candidates

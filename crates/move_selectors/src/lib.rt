@@ -1,0 +1,6 @@
+//! Candidates: the edits that the selectors of a search make of a plan and eight random words.
+#![tactic(auto)]
+
+mod entities;
+mod picks;
+mod values;

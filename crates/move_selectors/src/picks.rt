@@ -1,0 +1,25 @@
+ghost use Rattle.std.specs.Prelude.{◌≡◌, ◌^◌, ◌<◌, length, option_copied};
+ghost use Rattle.move_selectors.specs.Picks.{picked_place, picked};
+
+use plan_draws::pick;
+
+/// The place below a length that a word picks; none where the length is 0.
+pub fn picked_place(word: u32, len: usize) -> Option<usize>
+    requires { len < 2 ^ 32 }
+    ensures { result ≡ picked_place word len }
+{
+    if len == 0 {
+        None
+    } else {
+        Some(pick(word, len as u32) as usize)
+    }
+}
+
+/// The member of a list that a word picks; none of an empty list.
+pub fn picked<T>(word: u32, items: &[T]) -> Option<&T>
+    requires { length items.now < 2 ^ 32 }
+    ensures { option_copied result ≡ picked word items.now }
+{
+    let place = picked_place(word, items.len())?;
+    items.get(place)
+}

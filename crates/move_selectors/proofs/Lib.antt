@@ -1,2 +1,5 @@
 pub mod ListReads
 pub mod Walks
+pub mod Bounds
+pub mod Distinct
+pub mod SetLists

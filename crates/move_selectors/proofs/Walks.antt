@@ -1,7 +1,7 @@
 -- The classes of entities, and the entities, from a class on.
-use Rattle.std.proofs.Common.{◌≡◌, ◌∙◌, ℕ, suc, ◌+◌, ◌-◌, ◌<◌, ◌≤◌, Bool, true, false, cond, Option, Some, List, [], ◌∷◌, ◌++◌, length, filter, map, slice_get, get_or, option_map, sum_by, drop, zero, refl, ap, sym, arith}
+use Rattle.std.proofs.Common.{◌≡◌, ◌∙◌, ℕ, suc, ◌+◌, ◌-◌, ◌<◌, ◌≤◌, Bool, true, false, cond, Some, List, [], ◌∷◌, ◌++◌, length, filter, slice_get, get_or, option_map, sum_by, drop, zero, ap, arith}
 use Rattle.std.specs.List.{flat_map, range_with_len}
-use Rattle.std.proofs.lemmas.List.{length-map, length-append, drop_more}
+use Rattle.std.proofs.lemmas.List.{length-map, length-append}
 use Rattle.std.proofs.lemmas.List.Sums.{sum_by-drop_more}
 use Rattle.plan_facts.specs.declared.record.Raw.{Raw}
 use Rattle.std.proofs.lemmas.Option.{slice_get-map, slice_get-get_or}
@@ -103,10 +103,10 @@ few_from plan (suc left) class le =
     let whole = sum_by-drop_more (λ (view : ClassView). length view.facts) plan.classes class no_class (omega arith) in
     elim (is_entity_class plan class) as (λ (is : Bool). length (flat_map (entities_of plan) (cond is (class ∷ others) others)) ≤ sum_by (λ (view : ClassView). length view.facts) (drop class plan.classes)) [
       | true ↦
-        let both = length-append (entities_of plan class) (flat_map (entities_of plan) others) in
-        let here = length-map (ids_of plan class) (touch_at class) in
-        let facts = length-map (class_of plan class).facts (λ (raw : Raw). raw.id) in
-        omega arith
+          let both = length-append (entities_of plan class) (flat_map (entities_of plan) others) in
+          let here = length-map (ids_of plan class) (touch_at class) in
+          let facts = length-map (class_of plan class).facts (λ (raw : Raw). raw.id) in
+          omega arith
       | false ↦ omega arith
     ]
 

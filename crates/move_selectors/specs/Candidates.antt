@@ -1,23 +1,18 @@
 -- The edit that each selector makes of a plan and eight words.
-use Rattle.std.specs.Prelude.{ℕ, ◌==◌, List, [], ◌∷◌, ◌++◌, Option, Some, None, length, map, slice_index, option_map, if◌then◌else◌}
+use Rattle.std.specs.Prelude.{ℕ, ◌==◌, List, [], ◌∷◌, ◌++◌, Option, Some, None, map, slice_index, option_map, if◌then◌else◌}
 use Rattle.std.specs.Option.{option_and_then}
 use Rattle.std.specs.List.{flat_map}
 use Rattle.plan_facts.specs.declared.record.Raw.{Raw}
-use Rattle.plan_facts.specs.Plan.{PlanView, class_of, range_of, ids_of}
+use Rattle.plan_facts.specs.Plan.{PlanView, class_of}
 use Rattle.plan_settings.specs.declared.setting.Selector.{Selector}
 use Rattle.plan_settings.specs.declared.setting.Selector.TheVariants.{Change, Swap, PillarChange, PillarSwap, Own}
 use Rattle.plan_moves.specs.declared.edit.Set.{Set}
 use Rattle.move_selectors.specs.declared.values.Choice.{Choice}
-use Rattle.move_selectors.specs.Picks.{picked, picked_place}
+use Rattle.move_selectors.specs.Picks.{picked}
+use Rattle.move_selectors.specs.Choices.{choice_of}
 use Rattle.move_selectors.specs.Entities.{entity_classes, entities}
 use Rattle.move_selectors.specs.Pillars.{same_values, pillars, members_of}
 use Rattle.move_selectors.specs.Sets.{edit_of, sets_of}
-
--- a variable of a class that one word picks, and the value of its range that another picks
-abbrev pub choice_of : PlanView → ℕ → ℕ → ℕ → Option Choice
-choice_of plan class var_word value_word =
-    option_and_then (λ var. option_map (λ value. record { var = var; value = value }) (picked value_word (ids_of plan (range_of plan class var))))
-    (picked_place var_word (length (class_of plan class).ranges))
 
 -- the chosen variable of an entity gets the chosen value
 abbrev pub chosen_set : ℕ → Choice → ℕ → Set

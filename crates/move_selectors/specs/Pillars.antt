@@ -1,7 +1,7 @@
 -- The pillars of a class: the sets of all entities that have the same values, none of them null.
-use Rattle.std.specs.Prelude.{ℕ, Bool, not, List, [], ◌∷◌, Option, is_none, nat_eq, map, filter}
+use Rattle.std.specs.Prelude.{ℕ, Bool, not, List, [], ◌∷◌, Option, is_some, nat_eq, map, filter}
 use Rattle.std.specs.Option.{option_eq}
-use Rattle.std.specs.List.{list_any}
+use Rattle.std.specs.List.{list_all}
 use lib.Pointwise.{pointwise}
 use Rattle.plan_facts.specs.declared.record.Raw.{Raw}
 
@@ -11,7 +11,7 @@ same_values one other = pointwise (option_eq nat_eq) one other
 
 -- no value is null
 abbrev pub has_no_null : List (Option ℕ) → Bool
-has_no_null values = not (list_any is_none values)
+has_no_null values = list_all is_some values
 
 -- each member of a list once, where it first stands
 abbrev pub distinct : {A : Type 0} → (A → A → Bool) → List A → List A

@@ -1,5 +1,5 @@
 -- Edits that are made of a list of sets.
-use Rattle.std.specs.Prelude.{ℕ, List, [], ◌∷◌, map, fold, Option, if◌then◌else◌}
+use Rattle.std.specs.Prelude.{ℕ, List, [], map, fold, Option, if◌then◌else◌}
 use Rattle.std.specs.List.{enumerate_from}
 use Rattle.plan_moves.specs.declared.edit.Set.{Set}
 use Rattle.plan_moves.specs.Edits.{is_set_in, with_set}

@@ -3,4 +3,6 @@
 
 mod entities;
 mod picks;
+mod pillars;
+mod sets;
 mod values;

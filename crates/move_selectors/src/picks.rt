@@ -1,4 +1,4 @@
-ghost use Rattle.std.specs.Prelude.{◌≡◌, ◌^◌, ◌<◌, length, option_copied};
+ghost use Rattle.std.specs.Prelude.{◌≡◌, ◌^◌, ◌<◌, IfSome, length, option_copied};
 ghost use Rattle.move_selectors.specs.Picks.{picked_place, picked};
 
 use plan_draws::pick;
@@ -6,7 +6,8 @@ use plan_draws::pick;
 /// The place below a length that a word picks; none where the length is 0.
 pub fn picked_place(word: u32, len: usize) -> Option<usize>
     requires { len < 2 ^ 32 }
-    ensures { result ≡ picked_place word len }
+    ensures place { result ≡ picked_place word len }
+    ensures below { IfSome result (λ place. place < len) }
 {
     if len == 0 {
         None

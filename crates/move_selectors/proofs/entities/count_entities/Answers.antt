@@ -1,4 +1,4 @@
-use Rattle.std.proofs.Common.{◌≡◌, ◌∙◌, ◌<◌, ℕ, suc, List, Some, length, ◌+◌, slice_get, get_or, ap, sym, arith}
+use Rattle.std.proofs.Common.{◌∙◌, length, ap, sym, arith}
 use Rattle.move_selectors.proofs.Walks.{entities_from, entities_from_all, entities_from_end, entities_from_other, count_from, few_entities}
 use Rattle.move_selectors.proofs.entities.count_entities.Goals as goal
 use Rattle.move_selectors.proofs.entities.count_entities.Goals.{then-is_entity_class, else-is_entity_class}
@@ -20,12 +20,12 @@ pub loop-class-preserved : goal.loop-class-preserved
 loop-class-preserved c =
     elim c.if-is_entity_class.branch [
       | then-is_entity_class w ↦
-        let step = count_from c.args.plan.now c.loop-class.class c.classes-class-end.result c.loop-class-test.true (sym c.is_entity_class.ensures ∙ w.if-is_entity_class.true) in
-        let ids = ap length w.ids.ensures.ids in
-        omega arith
+          let step = count_from c.args.plan.now c.loop-class.class c.classes-class-end.result c.loop-class-test.true (sym c.is_entity_class.ensures ∙ w.if-is_entity_class.true) in
+          let ids = ap length w.ids.ensures.ids in
+          omega arith
       | else-is_entity_class w ↦
-        let step = ap length (entities_from_other c.args.plan.now c.loop-class.class c.classes-class-end.result c.loop-class-test.true (sym c.is_entity_class.ensures ∙ w.if-is_entity_class.false)) in
-        omega arith
+          let step = ap length (entities_from_other c.args.plan.now c.loop-class.class c.classes-class-end.result c.loop-class-test.true (sym c.is_entity_class.ensures ∙ w.if-is_entity_class.false)) in
+          omega arith
     ]
 
 pub returns-clause-count : goal.returns-clause-count

@@ -1,6 +1,6 @@
-use Rattle.std.proofs.Common.{◌≡◌, ◌+◌, ◌≤◌, length, slice_get}
-use Rattle.move_selectors.specs.Entities.{entity_classes, entities}
-use Rattle.move_selectors.proofs.Walks.{classes_from, entities_from}
+use Rattle.std.proofs.Common.{◌≡◌, ◌+◌, length}
+use Rattle.move_selectors.specs.Entities.{entities}
+use Rattle.move_selectors.proofs.Walks.{entities_from}
 use Rattle.move_selectors.proofs.entities.count_entities.Given as goal
 
 -- the entities so far, and those that are left, are all

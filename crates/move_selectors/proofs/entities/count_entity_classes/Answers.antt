@@ -1,4 +1,4 @@
-use Rattle.std.proofs.Common.{◌≡◌, ◌∙◌, ◌<◌, ℕ, suc, List, Some, length, slice_get, get_or, ◌+◌, ap, sym, arith}
+use Rattle.std.proofs.Common.{◌∙◌, length, ap, sym, arith}
 use Rattle.move_selectors.proofs.Walks.{classes_from, classes_from_all, classes_from_end, classes_from_entity, classes_from_other}
 use Rattle.move_selectors.proofs.entities.count_entity_classes.Goals as goal
 use Rattle.move_selectors.proofs.entities.count_entity_classes.Goals.{then-is_entity_class, else-is_entity_class}
@@ -13,11 +13,11 @@ pub loop-class-preserved : goal.loop-class-preserved
 loop-class-preserved c =
     elim c.if-is_entity_class.branch [
       | then-is_entity_class w ↦
-        let step = ap length (classes_from_entity c.args.plan.now c.loop-class.class c.classes-class-end.result c.loop-class-test.true (sym c.is_entity_class.ensures ∙ w.if-is_entity_class.true)) in
-        record { all = omega arith; few = omega arith }
+          let step = ap length (classes_from_entity c.args.plan.now c.loop-class.class c.classes-class-end.result c.loop-class-test.true (sym c.is_entity_class.ensures ∙ w.if-is_entity_class.true)) in
+          record { all = omega arith; few = omega arith }
       | else-is_entity_class w ↦
-        let step = ap length (classes_from_other c.args.plan.now c.loop-class.class c.classes-class-end.result c.loop-class-test.true (sym c.is_entity_class.ensures ∙ w.if-is_entity_class.false)) in
-        record { all = omega arith; few = omega arith }
+          let step = ap length (classes_from_other c.args.plan.now c.loop-class.class c.classes-class-end.result c.loop-class-test.true (sym c.is_entity_class.ensures ∙ w.if-is_entity_class.false)) in
+          record { all = omega arith; few = omega arith }
     ]
 
 pub returns-clause-count : goal.returns-clause-count

@@ -1,6 +1,6 @@
-use Rattle.std.proofs.Common.{◌≡◌, ◌+◌, ◌≤◌, length, slice_get}
-use Rattle.move_selectors.specs.Entities.{entity_classes, entities}
-use Rattle.move_selectors.proofs.Walks.{classes_from, entities_from}
+use Rattle.std.proofs.Common.{◌≡◌, ◌+◌, ◌≤◌, length}
+use Rattle.move_selectors.specs.Entities.{entity_classes}
+use Rattle.move_selectors.proofs.Walks.{classes_from}
 use Rattle.move_selectors.proofs.entities.count_entity_classes.Given as goal
 
 -- the classes so far, and those that are left, are all

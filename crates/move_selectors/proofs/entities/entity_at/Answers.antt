@@ -1,4 +1,4 @@
-use Rattle.std.proofs.Common.{◌≡◌, ◌∙◌, ◌<◌, ℕ, suc, List, Some, length, ◌+◌, slice_get, get_or, ap, sym, arith}
+use Rattle.std.proofs.Common.{◌∙◌, ℕ, List, Some, length, ◌+◌, slice_get, get_or, ap, sym, arith}
 use Rattle.plan_moves.specs.declared.edit.Touch.{Touch}
 use Rattle.move_selectors.proofs.Walks.{entities_from, entities_from_all, entities_from_end, entities_from_other, entity_here, entity_later, touch_at}
 use Rattle.move_selectors.proofs.entities.entity_at.Goals as goal
@@ -19,12 +19,12 @@ pub loop-class-preserved : goal.loop-class-preserved
 loop-class-preserved c =
     elim c.if-is_entity_class.branch [
       | then-is_entity_class+else-left-ids w ↦
-        let long = ap length w.ids-ids.ensures.ids in
-        sym (entity_later c.args.plan.now c.loop-class.class c.classes-class-end.result c.loop-class.left c.if-is_entity_class.left c.loop-class-test.true (sym c.is_entity_class.ensures ∙ w.if-is_entity_class.true) (omega arith)) ∙ c.loop-class.invariant
+          let long = ap length w.ids-ids.ensures.ids in
+          sym (entity_later c.args.plan.now c.loop-class.class c.classes-class-end.result c.loop-class.left c.if-is_entity_class.left c.loop-class-test.true (sym c.is_entity_class.ensures ∙ w.if-is_entity_class.true) (omega arith)) ∙ c.loop-class.invariant
       | else-is_entity_class w ↦
-        ap (slice_get (entities_from c.args.plan.now (c.loop-class.class + 1) c.classes-class-end.result)) w.left-is
-        ∙ sym (ap (λ (all : List Touch). slice_get all c.loop-class.left) (entities_from_other c.args.plan.now c.loop-class.class c.classes-class-end.result c.loop-class-test.true (sym c.is_entity_class.ensures ∙ w.if-is_entity_class.false)))
-        ∙ c.loop-class.invariant
+          ap (slice_get (entities_from c.args.plan.now (c.loop-class.class + 1) c.classes-class-end.result)) w.left-is
+          ∙ sym (ap (λ (all : List Touch). slice_get all c.loop-class.left) (entities_from_other c.args.plan.now c.loop-class.class c.classes-class-end.result c.loop-class-test.true (sym c.is_entity_class.ensures ∙ w.if-is_entity_class.false)))
+          ∙ c.loop-class.invariant
     ]
 
 pub returns : goal.returns

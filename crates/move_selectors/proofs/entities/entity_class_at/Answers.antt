@@ -1,4 +1,4 @@
-use Rattle.std.proofs.Common.{◌≡◌, ◌∙◌, ◌<◌, ℕ, suc, List, Some, length, slice_get, get_or, ◌+◌, ap, sym, arith}
+use Rattle.std.proofs.Common.{◌∙◌, ℕ, List, slice_get, ◌+◌, ap, sym, arith}
 use Rattle.move_selectors.proofs.Walks.{classes_from, classes_from_all, classes_from_end, classes_from_other, class_here, class_later}
 use Rattle.move_selectors.proofs.entities.entity_class_at.Goals as goal
 use Rattle.move_selectors.proofs.entities.entity_class_at.Goals.{then-is_entity_class+else-left-eq0, else-is_entity_class}
@@ -15,11 +15,11 @@ pub loop-class-preserved : goal.loop-class-preserved
 loop-class-preserved c =
     elim c.if-is_entity_class.branch [
       | then-is_entity_class+else-left-eq0 w ↦
-        sym (class_later c.args.plan.now c.loop-class.class c.classes-class-end.result c.loop-class.left c.if-is_entity_class.left c.loop-class-test.true (sym c.is_entity_class.ensures ∙ w.if-is_entity_class.true) (omega arith)) ∙ c.loop-class.invariant
+          sym (class_later c.args.plan.now c.loop-class.class c.classes-class-end.result c.loop-class.left c.if-is_entity_class.left c.loop-class-test.true (sym c.is_entity_class.ensures ∙ w.if-is_entity_class.true) (omega arith)) ∙ c.loop-class.invariant
       | else-is_entity_class w ↦
-        ap (slice_get (classes_from c.args.plan.now (c.loop-class.class + 1) c.classes-class-end.result)) w.left-is
-        ∙ sym (ap (λ (all : List ℕ). slice_get all c.loop-class.left) (classes_from_other c.args.plan.now c.loop-class.class c.classes-class-end.result c.loop-class-test.true (sym c.is_entity_class.ensures ∙ w.if-is_entity_class.false)))
-        ∙ c.loop-class.invariant
+          ap (slice_get (classes_from c.args.plan.now (c.loop-class.class + 1) c.classes-class-end.result)) w.left-is
+          ∙ sym (ap (λ (all : List ℕ). slice_get all c.loop-class.left) (classes_from_other c.args.plan.now c.loop-class.class c.classes-class-end.result c.loop-class-test.true (sym c.is_entity_class.ensures ∙ w.if-is_entity_class.false)))
+          ∙ c.loop-class.invariant
     ]
 
 pub returns : goal.returns

@@ -44,4 +44,7 @@ few_ids plan class sound =
     let few = (small_class plan class sound).facts in
     omega arith
 
-pub ruleset few = (few_ranges, few_ids)
+pub few_facts : (plan : PlanView) (class : ℕ) → IsPlan plan → length (class_of plan class).facts ≤ 20000
+few_facts plan class sound = (small_class plan class sound).facts
+
+pub ruleset few = (few_ranges, few_ids, few_facts)

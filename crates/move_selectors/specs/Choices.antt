@@ -6,7 +6,7 @@ use Rattle.move_selectors.specs.declared.values.Choice.{Choice}
 use Rattle.move_selectors.specs.Picks.{picked, picked_place}
 
 -- a variable of a class that one word picks, and the value of its range that another picks
-abbrev pub choice_of : PlanView → ℕ → ℕ → ℕ → Option Choice
+unfoldable pub choice_of : PlanView → ℕ → ℕ → ℕ → Option Choice
 choice_of plan class var_word value_word =
     option_and_then (λ var. option_map (λ value. record { var = var; value = value }) (picked value_word (ids_of plan (range_of plan class var))))
     (picked_place var_word (length (class_of plan class).ranges))

@@ -44,6 +44,7 @@ fn entity_class_at(plan: &Plan, place: usize) -> Option<u8>
 }
 
 /// The class of entities that a word picks; none where there is no such class.
+#[tactic(auto, unfolding(crate::specs::Picks::picked))]
 pub fn picked_class(plan: &Plan, word: u32) -> Option<u8>
     ensures { result ≡ picked word (entity_classes plan.now) }
 {
@@ -86,6 +87,7 @@ fn entity_at(plan: &Plan, place: usize) -> Option<Touch>
 }
 
 /// The entity that a word picks of all; none where the plan has no entities.
+#[tactic(auto, unfolding(crate::specs::Picks::picked))]
 pub fn picked_entity(plan: &Plan, word: u32) -> Option<Touch>
     ensures { result ≡ picked word (entities plan.now) }
 {

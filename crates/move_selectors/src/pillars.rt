@@ -38,6 +38,7 @@ pub fn find_pillars(alloc: Global, entities: &[Raw]) -> Result<Vec<&[Option<u32>
 }
 
 /// The pillar that a word picks; none where there is none.
+#[tactic(auto, unfolding(crate::specs::Picks::picked))]
 pub fn picked_pillar<'a>(word: u32, pillars: &[&'a [Option<u32>]]) -> Option<&'a [Option<u32>]>
     requires { length pillars.now < 2 ^ 32 }
     ensures { option_copied result ≡ picked word (map (λ pillar. pillar.now) pillars.now) }

@@ -13,7 +13,7 @@ pub struct Choice {
 
 /// The variable of a class that one word picks, with the value of its range that the other picks;
 /// none where there is no variable or no value.
-#[tactic(auto, using(crate::proofs::Bounds::few))]
+#[tactic(auto, using(crate::proofs::Bounds::few), unfolding(crate::specs::Choices::choice_of))]
 pub fn picked_choice(plan: &Plan, class: u8, var_word: u32, value_word: u32) -> Option<Choice>
     ensures { result ≡ choice_of plan.now class var_word value_word }
 {

@@ -1,7 +1,6 @@
 -- The limits of a problem: how many combinations of values, rows and score it may lead to.
-use Rattle.std.specs.Prelude.{ℕ, ◌*◌, nat_lt, List, [], fold, map, length, Option, Some, None, option_map, slice_get, if◌then◌else◌}
+use Rattle.std.specs.Prelude.{ℕ, ◌*◌, Bool, nat_lt, find, List, [], fold, map, length, Option, Some, None, option_map, slice_get, if◌then◌else◌}
 use Rattle.std.specs.Option.{option_or, option_map_or}
-use Rattle.plan_facts.specs.First.{first_fault}
 use Rattle.plan_facts.specs.Plan.{PlanView, class_of, ids_of}
 use Rattle.plan_facts.specs.PlanFaults.{ranges_of}
 use Rattle.plan_facts.specs.declared.record.ClassDef.{ClassDef}
@@ -16,17 +15,25 @@ use Rattle.problem_faults.specs.declared.fault.ProblemFault.TheVariants.{RangePr
 abbrev pub combination_count : PlanView → ClassDef → ℕ
 combination_count plan class = fold (λ count range. count * length (ids_of plan range)) 1 (ranges_of class)
 
--- an entity of a class that stands after these could take more than 65,536 combinations
-abbrev pub product_fault : PlanView → List ClassDef → ClassDef → Option ProblemFault
-product_fault plan earlier class = if nat_lt 65536 (combination_count plan class) then Some (RangeProduct class.name) else None
+-- an entity of the class could take more than 65,536 combinations
+abbrev pub is_wide : PlanView → ClassDef → Bool
+is_wide plan class = nat_lt 65536 (combination_count plan class)
+
+-- the first class whose entities could take too many combinations
+abbrev pub product_fault : List ClassDef → PlanView → Option ProblemFault
+product_fault classes plan = option_map (λ class. RangeProduct class.name) (find (is_wide plan) classes)
+
+-- the name of a rule
+abbrev pub rule_name : List RuleDef → ℕ → List ℕ
+rule_name rules rule = option_map_or (λ r. r.name) (slice_get rules rule) []
 
 -- a fault of the range of rows and score, by the rule's name
 abbrev pub named_range_fault : List RuleDef → RangeFault → ProblemFault
-named_range_fault rules (range.RowsBound rule) = RowsBound (option_map_or (λ r. r.name) (slice_get rules rule) [])
+named_range_fault rules (range.RowsBound rule) = RowsBound (rule_name rules rule)
 named_range_fault rules range.ScoreRange = ScoreRange
 
 -- the first class with too many combinations, or else too many rows or too great a score
 abbrev pub limits_fault : List ClassDef → List RuleDef → List ℕ → List ℕ → PlanView → Option ProblemFault
 limits_fault classes rules caps weights plan =
-    option_or (first_fault (product_fault plan) [] classes)
+    option_or (product_fault classes plan)
     (option_map (named_range_fault rules) (range_fault_of (sizes_of plan) rules weights caps))

@@ -13,9 +13,10 @@ use Rattle.plan_rules.specs.declared.rule.RuleDef.{RuleDef}
 use Rattle.problem_faults.specs.declared.fault.ProblemFault.{ProblemFault}
 use Rattle.problem_faults.specs.declared.fault.ProblemFault.TheVariants.{TooLong, Json, UnknownDomain}
 use Rattle.problem_settings.specs.Root.{root_fault}
-use Rattle.problem_settings.specs.SettingsRead.{settings_fault_of, settings_of}
-use Rattle.problem_settings.specs.Weights.{weights_fault_of, weights_of}
-use Rattle.problem_records.specs.Records.{records_fault, raws_of, names_of}
+use Rattle.problem_settings.specs.SettingsOf.{settings_fault_of, settings_of}
+use Rattle.problem_settings.specs.Weights.{weights_fault, weights_of}
+use Rattle.problem_records.specs.Facts.{raws_of, names_of}
+use Rattle.problem_records.specs.RecordFaults.{records_fault}
 use Rattle.plan_json.specs.Limits.{limits_fault}
 
 -- a domain as reading sees it: its name, classes and rules, and the cap of each rule's match weight
@@ -49,7 +50,7 @@ weights_in domain root = weights_of domain.rules (get (codes "weights") root)
 abbrev pub content_fault : DomainView → Data → Option ProblemFault
 content_fault domain root =
     option_or (settings_fault_of (get (codes "settings") root))
-    (option_or (weights_fault_of domain.rules (get (codes "weights") root))
+    (option_or (weights_fault domain.rules (get (codes "weights") root))
     (option_or (records_fault domain.classes (facts_of root))
     (limits_fault domain.classes domain.rules domain.caps (weights_in domain root) (plan_in domain root))))
 

@@ -1,0 +1,109 @@
+ghost use Rattle.std.specs.Prelude.{◌≡◌, ◌⊎◌, None, Some, Ok, Err, OnOk, IfErr, IfOk, IsSomeAnd, map, position, slice_get};
+ghost use Rattle.std.specs.Str.{bytes_eq};
+ghost use Rattle.serde_json.specs.View.{view};
+ghost use Rattle.problem_faults.specs.Refusals.{IsRefusal};
+ghost use Rattle.plan_json.specs.Accepted.{domain_view, problem_view, IsAccepted};
+ghost use Rattle.plan_json.specs.Problem.{content_fault, facts_of, place_of_domain, problem_in, problem_of, problem_of_root};
+
+use crate::domain::Domain;
+use crate::limits::check_limits;
+use crate::problem::Problem;
+use json_values::{ReadFault, member, read_value};
+use plan_rules::Book;
+use problem_faults::ProblemFault;
+use problem_records::read_records;
+use problem_settings::{check_root, read_settings, read_weights};
+use serde_json::Value;
+use std::alloc::Global;
+
+/// The most bytes that a problem may have.
+const BYTE_LIMIT: usize = 67_108_864;
+
+/// The member `facts` of a root that has it.
+fn facts_of(root: &Value) -> &Value
+    ensures { view result.now ≡ facts_of (view root.now) }
+{
+    match member(root, b"facts") {
+        Some(facts) => facts,
+        None => root,
+    }
+}
+
+/// The problem of this domain that the root is.
+fn read_content<B: Book>(
+    alloc: Global,
+    root: &Value,
+    place: usize,
+    domain: &Domain<B>,
+) -> Result<Problem, ProblemFault>
+    ensures ok { OnOk result (content_fault (domain_view domain.now) (view root.now) ≡ None) }
+    ensures problem { IfOk result (λ problem. problem_view problem ≡ problem_in place (domain_view domain.now) (view root.now)) }
+    ensures accepted { IfOk result (IsAccepted domain.now) }
+    ensures err { IfErr result (IsRefusal (content_fault (domain_view domain.now) (view root.now))) }
+{
+    let settings = read_settings(alloc, member(root, b"settings"))?;
+    let defs = domain.rules.defs.as_slice();
+    let weights = read_weights(alloc, defs, member(root, b"weights"))?;
+    let records = read_records(alloc, &domain.schema, facts_of(root))?;
+    check_limits(alloc, &domain.schema, &domain.rules, &weights, &records.plan)?;
+    Ok(Problem {
+        domain: place,
+        plan: records.plan,
+        names: records.names,
+        settings,
+        weights,
+    })
+}
+
+/// The place of the first domain of this name.
+fn domain_named<B>(domains: &[Domain<B>], name: &[u8]) -> Option<usize>
+    ensures { result ≡ position (λ domain. bytes_eq name.now domain.name) domains.now }
+{
+    domains.iter().position(|domain| name == domain.name.as_slice())
+}
+
+/// The place of the first domain of the name that the root has.
+fn domain_of<B>(domains: &[Domain<B>], root: &Value) -> Option<usize>
+    ensures { result ≡ place_of_domain (map domain_view domains.now) (view root.now) }
+{
+    let name = member(root, b"domain")?.as_str()?;
+    domain_named(domains, name.as_bytes())
+}
+
+/// The problem that a root is.
+fn read_root<B: Book>(
+    alloc: Global,
+    root: &Value,
+    domains: &[Domain<B>],
+) -> Result<Problem, ProblemFault>
+    ensures ok { IfOk result (λ problem. problem_of_root (map domain_view domains.now) (view root.now) ≡ Ok (problem_view problem)) }
+    ensures accepted { IfOk result (λ problem. IsSomeAnd (slice_get domains.now problem.domain) (λ domain. IsAccepted domain problem)) }
+    ensures err { IfErr result (λ fault. (fault ≡ ProblemFault.Memory) ⊎ (problem_of_root (map domain_view domains.now) (view root.now) ≡ Err fault)) }
+{
+    check_root(alloc, root)?;
+    let Some(place) = domain_of(domains, root) else {
+        return Err(ProblemFault::UnknownDomain);
+    };
+    read_content(alloc, root, place, &domains[place])
+}
+
+/// The problem that the bytes are, or the first refusal in the order that [`ProblemFault`] gives; only want of memory may
+/// come before.
+pub fn read_problem<B: Book>(
+    alloc: Global,
+    bytes: &[u8],
+    domains: &[Domain<B>],
+) -> Result<Problem, ProblemFault>
+    ensures ok { IfOk result (λ problem. problem_of (map domain_view domains.now) bytes.now ≡ Ok (problem_view problem)) }
+    ensures accepted { IfOk result (λ problem. IsSomeAnd (slice_get domains.now problem.domain) (λ domain. IsAccepted domain problem)) }
+    ensures err { IfErr result (λ fault. (fault ≡ ProblemFault.Memory) ⊎ (problem_of (map domain_view domains.now) bytes.now ≡ Err fault)) }
+{
+    if bytes.len() > BYTE_LIMIT {
+        return Err(ProblemFault::TooLong);
+    }
+    match read_value(alloc, bytes) {
+        Ok(root) => read_root(alloc, &root, domains),
+        Err(ReadFault::Memory) => Err(ProblemFault::Memory),
+        Err(ReadFault::Json) => Err(ProblemFault::Json),
+    }
+}

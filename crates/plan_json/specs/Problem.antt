@@ -1,5 +1,5 @@
 -- What a problem's bytes mean: a problem of one of the domains, or what it is refused for, from the value that serde_json reads.
-use Rattle.std.specs.Prelude.{◌≡◌, ◌⊎◌, ℕ, nat_lt, Bool, List, length, Option, Some, None, option_and_then, unwrap_or, position, Result, Ok, Err, codes, slice_get, if◌then◌else◌}
+use Rattle.std.specs.Prelude.{◌≡◌, ◌⊎◌, ℕ, nat_lt, Bool, List, length, Option, Some, None, option_and_then, unwrap_or, map, position, Result, Ok, Err, codes, slice_get, if◌then◌else◌}
 use Rattle.std.specs.Option.{option_or}
 use Rattle.std.specs.Str.{bytes_eq}
 use Rattle.serde_json.specs.Data.{Data}
@@ -25,6 +25,10 @@ pub record DomainView : Type 0 where
   pub classes : List ClassDef
   pub rules : List RuleDef
   pub caps : List ℕ
+
+-- a domain of this name, these classes, and these rules with their caps
+abbrev pub domain_with : List ℕ → List ClassDef → List RuleDef → List ℕ → DomainView
+domain_with name classes rules caps = record { name = name; classes = classes; rules = rules; caps = caps }
 
 -- a problem: its domain's place, its plan, the names in it, its settings, and the weight of each rule
 pub record ProblemView : Type 0 where
@@ -71,16 +75,17 @@ unless_fault (Some fault) value = Err fault
 
 -- the place of the first domain of the name that the root has
 abbrev pub place_of_domain : List DomainView → Data → Option ℕ
-place_of_domain domains root = option_and_then (λ name. position (λ domain. bytes_eq name domain.name) domains) (option_and_then as_str (get (codes "domain") root))
+place_of_domain domains root = option_and_then (λ name. position (bytes_eq name) (map (λ domain. domain.name) domains)) (option_and_then as_str (get (codes "domain") root))
+
+-- the problem of the domain that stands at this place, if there is one
+abbrev pub problem_under : Data → ℕ → Option DomainView → Result ProblemView ProblemFault
+problem_under root place None = Err UnknownDomain
+problem_under root place (Some domain) = unless_fault (content_fault domain root) (problem_in place domain root)
 
 -- the problem of the domain at this place
 abbrev pub problem_at : List DomainView → Data → Option ℕ → Result ProblemView ProblemFault
 problem_at domains root None = Err UnknownDomain
-problem_at domains root (Some place) = problem_of_domain place (slice_get domains place)
-  where
-    problem_of_domain : ℕ → Option DomainView → Result ProblemView ProblemFault
-    problem_of_domain place None = Err UnknownDomain
-    problem_of_domain place (Some domain) = unless_fault (content_fault domain root) (problem_in place domain root)
+problem_at domains root (Some place) = problem_under root place (slice_get domains place)
 
 -- the problem that a root is
 abbrev pub problem_of_root : List DomainView → Data → Result ProblemView ProblemFault

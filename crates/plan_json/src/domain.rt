@@ -3,7 +3,7 @@ ghost use Rattle.plan_facts.specs.Schema.{is_name};
 
 use plan_facts::{Schema, Text};
 use plan_moves::MoveMaker;
-use plan_rules::{Book, Kept, Rules};
+use plan_rules::Rules;
 
 /// A domain: its name, its classes, its rules over them, and its makers of moves.
 #[derive(Drop)]
@@ -17,10 +17,6 @@ pub struct Domain<B> {
     pub ghost named: { IsTrue (is_name name) },
     pub ghost over: { rules.schema ≡ schema },
     pub ghost few_makers: { vec_len makers < 2 ^ 32 },
-}
-
-impl<B: Book> Kept for Domain<B> {
-    ghost keeps = { λ domain. ⟦<Rules<B> as Kept>⟧.keeps domain.rules };
 }
 
 impl<B> Domain<B> {

@@ -2,8 +2,8 @@ ghost use Rattle.std.specs.Prelude.{◌≡◌, ◌⊎◌, None, Some, Ok, Err, O
 ghost use Rattle.std.specs.Str.{bytes_eq};
 ghost use Rattle.serde_json.specs.View.{view};
 ghost use Rattle.problem_faults.specs.Refusals.{IsRefusal};
-ghost use Rattle.plan_json.specs.Accepted.{domain_view, problem_view, IsAccepted};
-ghost use Rattle.plan_json.specs.Problem.{content_fault, facts_of, place_of_domain, problem_in, problem_of, problem_of_root};
+ghost use Rattle.plan_json.specs.Accepted.{problem_view, IsAccepted};
+ghost use Rattle.plan_json.specs.Problem.{content_fault, domain_with, facts_of, place_of_domain, problem_in, problem_of, problem_of_root};
 
 use crate::domain::Domain;
 use crate::limits::check_limits;
@@ -36,10 +36,10 @@ fn read_content<B: Book>(
     place: usize,
     domain: &Domain<B>,
 ) -> Result<Problem, ProblemFault>
-    ensures ok { OnOk result (content_fault (domain_view domain.now) (view root.now) ≡ None) }
-    ensures problem { IfOk result (λ problem. problem_view problem ≡ problem_in place (domain_view domain.now) (view root.now)) }
-    ensures accepted { IfOk result (IsAccepted domain.now) }
-    ensures err { IfErr result (IsRefusal (content_fault (domain_view domain.now) (view root.now))) }
+    ensures ok { OnOk result (content_fault (domain_with domain.now.name domain.now.schema domain.now.rules.defs domain.now.rules.caps) (view root.now) ≡ None) }
+    ensures problem { IfOk result (λ problem. problem_view problem ≡ problem_in place (domain_with domain.now.name domain.now.schema domain.now.rules.defs domain.now.rules.caps) (view root.now)) }
+    ensures accepted { IfOk result (IsAccepted domain.now.rules.defs domain.now.rules.caps) }
+    ensures err { IfErr result (IsRefusal (content_fault (domain_with domain.now.name domain.now.schema domain.now.rules.defs domain.now.rules.caps) (view root.now))) }
 {
     let settings = read_settings(alloc, member(root, b"settings"))?;
     let defs = domain.rules.defs.as_slice();
@@ -55,16 +55,28 @@ fn read_content<B: Book>(
     })
 }
 
+/// Whether this is the name of the domain.
+fn is_named<B>(domain: &Domain<B>, name: &[u8]) -> bool
+    ensures { result ≡ bytes_eq name.now domain.now.name }
+{
+    name == domain.name.as_slice()
+}
+
 /// The place of the first domain of this name.
 fn domain_named<B>(domains: &[Domain<B>], name: &[u8]) -> Option<usize>
-    ensures { result ≡ position (λ domain. bytes_eq name.now domain.name) domains.now }
+    ensures { result ≡ position (bytes_eq name.now) (map (λ d. d.name) domains.now) }
 {
-    domains.iter().position(|domain| name == domain.name.as_slice())
+    for place in 0..domains.len() {
+        if is_named(&domains[place], name) {
+            return Some(place);
+        }
+    }
+    None
 }
 
 /// The place of the first domain of the name that the root has.
 fn domain_of<B>(domains: &[Domain<B>], root: &Value) -> Option<usize>
-    ensures { result ≡ place_of_domain (map domain_view domains.now) (view root.now) }
+    ensures { result ≡ place_of_domain (map (λ d. domain_with d.name d.schema d.rules.defs d.rules.caps) domains.now) (view root.now) }
 {
     let name = member(root, b"domain")?.as_str()?;
     domain_named(domains, name.as_bytes())
@@ -76,9 +88,9 @@ fn read_root<B: Book>(
     root: &Value,
     domains: &[Domain<B>],
 ) -> Result<Problem, ProblemFault>
-    ensures ok { IfOk result (λ problem. problem_of_root (map domain_view domains.now) (view root.now) ≡ Ok (problem_view problem)) }
-    ensures accepted { IfOk result (λ problem. IsSomeAnd (slice_get domains.now problem.domain) (λ domain. IsAccepted domain problem)) }
-    ensures err { IfErr result (λ fault. (fault ≡ ProblemFault.Memory) ⊎ (problem_of_root (map domain_view domains.now) (view root.now) ≡ Err fault)) }
+    ensures ok { IfOk result (λ problem. problem_of_root (map (λ d. domain_with d.name d.schema d.rules.defs d.rules.caps) domains.now) (view root.now) ≡ Ok (problem_view problem)) }
+    ensures accepted { IfOk result (λ problem. IsSomeAnd (slice_get domains.now problem.domain) (λ d. IsAccepted d.rules.defs d.rules.caps problem)) }
+    ensures err { IfErr result (λ fault. (fault ≡ ProblemFault.Memory) ⊎ (problem_of_root (map (λ d. domain_with d.name d.schema d.rules.defs d.rules.caps) domains.now) (view root.now) ≡ Err fault)) }
 {
     check_root(alloc, root)?;
     let Some(place) = domain_of(domains, root) else {
@@ -94,9 +106,9 @@ pub fn read_problem<B: Book>(
     bytes: &[u8],
     domains: &[Domain<B>],
 ) -> Result<Problem, ProblemFault>
-    ensures ok { IfOk result (λ problem. problem_of (map domain_view domains.now) bytes.now ≡ Ok (problem_view problem)) }
-    ensures accepted { IfOk result (λ problem. IsSomeAnd (slice_get domains.now problem.domain) (λ domain. IsAccepted domain problem)) }
-    ensures err { IfErr result (λ fault. (fault ≡ ProblemFault.Memory) ⊎ (problem_of (map domain_view domains.now) bytes.now ≡ Err fault)) }
+    ensures ok { IfOk result (λ problem. problem_of (map (λ d. domain_with d.name d.schema d.rules.defs d.rules.caps) domains.now) bytes.now ≡ Ok (problem_view problem)) }
+    ensures accepted { IfOk result (λ problem. IsSomeAnd (slice_get domains.now problem.domain) (λ d. IsAccepted d.rules.defs d.rules.caps problem)) }
+    ensures err { IfErr result (λ fault. (fault ≡ ProblemFault.Memory) ⊎ (problem_of (map (λ d. domain_with d.name d.schema d.rules.defs d.rules.caps) domains.now) bytes.now ≡ Err fault)) }
 {
     if bytes.len() > BYTE_LIMIT {
         return Err(ProblemFault::TooLong);

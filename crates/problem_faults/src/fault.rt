@@ -5,7 +5,7 @@ use std::alloc::{AllocError, AllocFailed, Global};
 /// Why bytes are no problem. Where several apply, the one listed first is given; classes, fields, variables and rules are
 /// named. Of one kind the first one counts: settings in their table's order, weights in rule order, records in the order of
 /// classes and of their lists, fields and variables in schema order.
-#[derive(Drop)]
+#[derive(Debug, Drop)]
 pub enum ProblemFault {
     /// Want of memory.
     Memory,

@@ -1,11 +1,11 @@
 use plan_facts::{Memory, Text};
 use plan_settings::Setting;
-use std::alloc::{AllocError, AllocFailed};
+use std::alloc::{AllocError, AllocFailed, Global};
 
 /// Why bytes are no problem. Where several apply, the one listed first is given; classes, fields, variables and rules are
 /// named. Of one kind the first one counts: settings in their table's order, weights in rule order, records in the order of
 /// classes and of their lists, fields and variables in schema order.
-#[derive(Drop)]
+#[derive(Debug, Drop)]
 pub enum ProblemFault {
     /// Want of memory.
     Memory,
@@ -33,6 +33,37 @@ pub enum ProblemFault {
     RowsBound { rule: Text },
     /// The score may pass 2^62.
     ScoreRange,
+}
+
+impl ProblemFault {
+    ghost use Rattle.std.specs.Prelude.{Some};
+    ghost use Rattle.std.specs.List.{flat_map};
+    ghost use Rattle.problem_faults.specs.Refusals.{IsRefusal};
+    ghost use Rattle.problem_faults.specs.declared.fault.ProblemFault.TheVariants as ProblemFault;
+
+    /// The fault of what stands at the path that these pieces make, one after another.
+    pub fn shape(alloc: Global, pieces: &[&[u8]]) -> ProblemFault
+        ensures { IsRefusal (Some (ProblemFault.Shape (flat_map (λ piece. piece.now) pieces.now))) result }
+    {
+        match joined(alloc, pieces) {
+            Ok(path) => ProblemFault::Shape { path },
+            Err(Memory) => ProblemFault::Memory,
+        }
+    }
+}
+
+ghost use Rattle.std.specs.Prelude.{◌≡◌, IfOk};
+ghost use Rattle.std.specs.List.{flat_map};
+
+/// The pieces, one after another.
+fn joined(alloc: Global, pieces: &[&[u8]]) -> Result<Text, Memory>
+    ensures { IfOk result (λ text. text ≡ flat_map (λ piece. piece.now) pieces.now) }
+{
+    let mut bytes = Vec::new(alloc);
+    for piece in pieces {
+        bytes.extend_from_slice(piece)?;
+    }
+    Text::from_slice(alloc, &bytes)
 }
 
 impl From<Memory> for ProblemFault {

@@ -1,6 +1,10 @@
-//! Why a problem's bytes are refused.
+//! Why a problem's bytes are refused, and the line that says so.
 #![tactic(auto)]
 
 mod fault;
+#[cfg(test)]
+mod tests;
+mod words;
 
 pub use fault::ProblemFault;
+pub use words::{setting_name, write_refusal};

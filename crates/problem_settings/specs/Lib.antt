@@ -1,0 +1,4 @@
+pub mod Root
+pub mod SettingsOf
+pub mod Weights
+pub mod Words

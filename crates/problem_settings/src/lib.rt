@@ -1,0 +1,13 @@
+//! The root of a problem, its settings and its weights, read from a JSON value.
+#![tactic(auto)]
+
+mod root;
+mod settings;
+#[cfg(test)]
+mod tests;
+mod weights;
+mod words;
+
+pub use root::check_root;
+pub use settings::read_settings;
+pub use weights::read_weights;

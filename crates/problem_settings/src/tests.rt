@@ -1,0 +1,308 @@
+use super::*;
+use json_values::read_value;
+use plan_facts::{List, Memory, Text};
+use plan_rules::{Head, RuleDef};
+use plan_scores::Level;
+use plan_settings::{AcceptorKind, Early, Selector};
+use problem_faults::{ProblemFault, write_refusal};
+use std::alloc::Global;
+use std::process::Abort;
+use std::test::Fail;
+
+/// The line of a refusal; no bytes where nothing is refused.
+fn line<T: Drop>(alloc: Global, answer: Result<T, ProblemFault>) -> Result<Vec<u8>, Memory> {
+    let mut out = Vec::new(alloc);
+    if let Err(fault) = answer {
+        write_refusal(&fault, &mut out)?;
+    }
+    Ok(out)
+}
+
+/// Roots, beside what is written of them.
+const ROOTS: [(&[u8], &[u8]); 16] = [
+    (b"{\"format\":1,\"domain\":\"chess\",\"facts\":{}}", b""),
+    (
+        b"{\"facts\":{},\"weights\":{},\"settings\":{},\"domain\":\"\",\"format\":1}",
+        b"",
+    ),
+    (b"null", b"refused problem shape /\n"),
+    (b"[]", b"refused problem shape /\n"),
+    (b"{}", b"refused problem shape /format\n"),
+    (b"{\"format\":2}", b"refused problem shape /format\n"),
+    (b"{\"format\":1.0}", b"refused problem shape /format\n"),
+    (b"{\"format\":\"1\"}", b"refused problem shape /format\n"),
+    (
+        b"{\"format\":1,\"format\":2}",
+        b"refused problem shape /format\n",
+    ),
+    (b"{\"format\":1}", b"refused problem shape /domain\n"),
+    (
+        b"{\"format\":1,\"domain\":7}",
+        b"refused problem shape /domain\n",
+    ),
+    (
+        b"{\"format\":1,\"domain\":\"a\",\"settings\":null,\"weights\":1}",
+        b"refused problem shape /settings\n",
+    ),
+    (
+        b"{\"format\":1,\"domain\":\"a\",\"weights\":[]}",
+        b"refused problem shape /weights\n",
+    ),
+    (
+        b"{\"format\":1,\"domain\":\"a\",\"x\":1}",
+        b"refused problem shape /facts\n",
+    ),
+    (
+        b"{\"format\":1,\"domain\":\"a\",\"facts\":[]}",
+        b"refused problem shape /facts\n",
+    ),
+    (
+        b"{\"format\":1,\"domain\":\"a\",\"facts\":{},\"Facts\":{}}",
+        b"refused problem shape /\n",
+    ),
+];
+
+/// Settings, beside what is written of them.
+const SETTINGS: [(&[u8], &[u8]); 23] = [
+    (b"{}", b""),
+    (b"{\"seed\":18446744073709551615,\"steps\":1000000}", b""),
+    (
+        b"{\"selectors\":[\"own\",\"own\",\"own\",\"own\",\"own\",\"own\",\"own\",\"own\"]}",
+        b"",
+    ),
+    (b"{\"seed\":-1}", b"refused problem setting seed\n"),
+    (b"{\"seed\":1.0}", b"refused problem setting seed\n"),
+    (
+        b"{\"seed\":18446744073709551616}",
+        b"refused problem setting seed\n",
+    ),
+    (b"{\"steps\":1000001}", b"refused problem setting steps\n"),
+    (b"{\"steps\":1e3}", b"refused problem setting steps\n"),
+    (
+        b"{\"select_limit\":0,\"steps\":null}",
+        b"refused problem setting steps\n",
+    ),
+    (
+        b"{\"select_limit\":0}",
+        b"refused problem setting select_limit\n",
+    ),
+    (
+        b"{\"accepted_limit\":10001}",
+        b"refused problem setting accepted_limit\n",
+    ),
+    (
+        b"{\"pick_early\":\"Best\"}",
+        b"refused problem setting pick_early\n",
+    ),
+    (
+        b"{\"pick_early\":0}",
+        b"refused problem setting pick_early\n",
+    ),
+    (
+        b"{\"acceptor\":\"\"}",
+        b"refused problem setting acceptor\n",
+    ),
+    (
+        b"{\"late_size\":\"400\"}",
+        b"refused problem setting late_size\n",
+    ),
+    (b"{\"tabu_size\":0}", b"refused problem setting tabu_size\n"),
+    (
+        b"{\"step_count_size\":0}",
+        b"refused problem setting step_count_size\n",
+    ),
+    (
+        b"{\"selectors\":[]}",
+        b"refused problem setting selectors\n",
+    ),
+    (
+        b"{\"selectors\":\"own\"}",
+        b"refused problem setting selectors\n",
+    ),
+    (
+        b"{\"selectors\":[\"own\",\"none\"]}",
+        b"refused problem setting selectors\n",
+    ),
+    (
+        b"{\"selectors\":[\"own\",\"own\",\"own\",\"own\",\"own\",\"own\",\"own\",\"own\",\"own\"]}",
+        b"refused problem setting selectors\n",
+    ),
+    (b"{\"colour\":1}", b"refused problem shape /settings\n"),
+    (
+        b"{\"colour\":1,\"selectors\":[]}",
+        b"refused problem setting selectors\n",
+    ),
+];
+
+fn try_root(rt: &impl Abort, alloc: Global, text: &[u8], wanted: &[u8]) -> Result<(), Fail> {
+    let root = read_value(alloc, text)?;
+    assert_eq!(rt; line(alloc, check_root(alloc, &root))?.as_slice(), wanted);
+    Ok(())
+}
+
+#[test]
+fn refuses_roots_by_the_first_wrong_member(rt: HostRuntime) -> Result<(), Fail> {
+    for (text, wanted) in &ROOTS {
+        try_root(&rt, rt.alloc(), text, wanted)?;
+    }
+    Ok(())
+}
+
+fn try_settings(rt: &impl Abort, alloc: Global, text: &[u8], wanted: &[u8]) -> Result<(), Fail> {
+    let value = read_value(alloc, text)?;
+    assert_eq!(rt;
+        line(alloc, read_settings(alloc, Some(&value)))?.as_slice(),
+        wanted
+    );
+    Ok(())
+}
+
+#[test]
+fn refuses_settings_in_their_order(rt: HostRuntime) -> Result<(), Fail> {
+    for (text, wanted) in &SETTINGS {
+        try_settings(&rt, rt.alloc(), text, wanted)?;
+    }
+    Ok(())
+}
+
+/// Settings that say all.
+const TOLD: &[u8] =
+    b"{\"seed\":18446744073709551615,\"steps\":0,\"select_limit\":2,\"accepted_limit\":3,\"pick_early\":\"last\",\"acceptor\":\"step_count\",\"late_size\":4,\"tabu_size\":5,\"step_count_size\":10000,\"selectors\":[\"pillar_swap\",\"own\",\"pillar_change\",\"own\"]}";
+
+#[test]
+fn reads_settings(rt: HostRuntime) -> Result<(), Fail> {
+    let usual = read_settings(rt.alloc(), None)?;
+    assert_eq!(rt;
+        (
+            usual.seed,
+            usual.steps,
+            usual.select_limit,
+            usual.accepted_limit
+        ),
+        (0, 1_000, 1_000, 1)
+    );
+    assert_eq!(rt;
+        (usual.pick_early, usual.acceptor),
+        (Early::Never, AcceptorKind::Late)
+    );
+    assert_eq!(rt;
+        (usual.late_size, usual.tabu_size, usual.step_count_size),
+        (400, 7, 400)
+    );
+    assert_eq!(rt;
+        usual.selectors.as_slice(),
+        [Selector::Change, Selector::Swap].as_slice()
+    );
+    let value = read_value(rt.alloc(), TOLD)?;
+    let read = read_settings(rt.alloc(), Some(&value))?;
+    assert_eq!(rt;
+        (
+            read.seed,
+            read.steps,
+            read.select_limit,
+            read.accepted_limit
+        ),
+        (u64::MAX, 0, 2, 3)
+    );
+    assert_eq!(rt;
+        (read.pick_early, read.acceptor),
+        (Early::Last, AcceptorKind::StepCount)
+    );
+    assert_eq!(rt;
+        (read.late_size, read.tabu_size, read.step_count_size),
+        (4, 5, 10_000)
+    );
+    let selectors = [
+        Selector::PillarSwap,
+        Selector::Own,
+        Selector::PillarChange,
+        Selector::Own,
+    ];
+    assert_eq!(rt; read.selectors.as_slice(), selectors.as_slice());
+    Ok(())
+}
+
+/// A rule with this name and weight.
+fn rule(alloc: Global, name: &[u8], weight: u32) -> Result<RuleDef, Memory> {
+    Ok(RuleDef {
+        name: Text::from_slice(alloc, name)?,
+        level: Level::Hard,
+        reward: false,
+        weight,
+        weigh: None,
+        head: Head::ForEach(0),
+        nodes: List::new(alloc),
+    })
+}
+
+/// Two rules, of weight 1 and 7.
+fn rules(alloc: Global) -> Result<List<RuleDef>, Memory> {
+    let mut rules = List::new(alloc);
+    rules.push(rule(alloc, b"room_conflict", 1)?)?;
+    rules.push(rule(alloc, b"room_size", 7)?)?;
+    Ok(rules)
+}
+
+/// Weights that are refused, beside what is written of them.
+const BAD_WEIGHTS: [(&[u8], &[u8]); 6] = [
+    (
+        b"{\"room_size\":1000001}",
+        b"refused problem shape /weights/room_size\n",
+    ),
+    (
+        b"{\"room_size\":-1}",
+        b"refused problem shape /weights/room_size\n",
+    ),
+    (
+        b"{\"room_size\":1.0}",
+        b"refused problem shape /weights/room_size\n",
+    ),
+    (
+        b"{\"rum\":1,\"room_size\":null,\"room_conflict\":\"1\"}",
+        b"refused problem shape /weights/room_conflict\n",
+    ),
+    (b"{\"rum\":1}", b"refused problem shape /weights\n"),
+    (b"{\"\":1}", b"refused problem shape /weights\n"),
+];
+
+/// Weights, beside the weights of the two rules.
+const WEIGHTS: [(&[u8], [u32; 2]); 3] = [
+    (b"{}", [1, 7]),
+    (b"{\"room_size\":0}", [1, 0]),
+    (
+        b"{\"room_size\":1,\"room_conflict\":1000000}",
+        [1_000_000, 1],
+    ),
+];
+
+fn try_bad_weights(rt: &impl Abort, alloc: Global, text: &[u8], wanted: &[u8]) -> Result<(), Fail> {
+    let value = read_value(alloc, text)?;
+    let answer = read_weights(alloc, rules(alloc)?.as_slice(), Some(&value));
+    assert_eq!(rt; line(alloc, answer)?.as_slice(), wanted);
+    Ok(())
+}
+
+#[test]
+fn refuses_weights_in_rule_order(rt: HostRuntime) -> Result<(), Fail> {
+    for (text, wanted) in &BAD_WEIGHTS {
+        try_bad_weights(&rt, rt.alloc(), text, wanted)?;
+    }
+    Ok(())
+}
+
+fn try_weights(rt: &impl Abort, alloc: Global, text: &[u8], wanted: &[u32]) -> Result<(), Fail> {
+    let value = read_value(alloc, text)?;
+    let read = read_weights(alloc, rules(alloc)?.as_slice(), Some(&value))?;
+    assert_eq!(rt; read.as_slice(), wanted);
+    Ok(())
+}
+
+#[test]
+fn reads_weights_in_rule_order(rt: HostRuntime) -> Result<(), Fail> {
+    for (text, wanted) in &WEIGHTS {
+        try_weights(&rt, rt.alloc(), text, wanted)?;
+    }
+    let own = read_weights(rt.alloc(), rules(rt.alloc())?.as_slice(), None)?;
+    assert_eq!(rt; own.as_slice(), [1, 7].as_slice());
+    Ok(())
+}

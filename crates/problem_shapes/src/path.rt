@@ -1,0 +1,52 @@
+ghost use Rattle.std.specs.Prelude.{◌≡◌, ◌∷◌, [], Some, IfOk, map, decimal, take, ◌++◌, codes};
+ghost use Rattle.problem_faults.specs.Refusals.{IsRefusal};
+ghost use Rattle.problem_shapes.specs.Shapes.{path_of, shape_at};
+
+use itoa::Buffer;
+use plan_facts::{ClassDef, Memory, Text};
+use problem_faults::ProblemFault;
+use std::alloc::Global;
+
+/// The path of these parts below the facts.
+fn path_of(alloc: Global, parts: &[&[u8]]) -> Result<Text, Memory>
+    ensures { IfOk result (λ path. path ≡ path_of (map (λ part. part.now) parts.now)) }
+{
+    let mut path = Vec::from_slice(alloc, b"/facts")?;
+    for part in parts {
+        path.push(b'/')?;
+        path.extend_from_slice(part)?;
+    }
+    Text::from_slice(alloc, &path)
+}
+
+/// The refusal of what stands at the path of these parts below the facts.
+pub fn shape_at(alloc: Global, parts: &[&[u8]]) -> ProblemFault
+    ensures { IsRefusal (Some (shape_at (map (λ part. part.now) parts.now))) result }
+{
+    match path_of(alloc, parts) {
+        Ok(path) => ProblemFault::Shape { path },
+        Err(Memory) => ProblemFault::Memory,
+    }
+}
+
+/// The refusal of a record of the class, by its place in its list.
+pub fn record_shape(alloc: Global, class: &ClassDef, place: usize) -> ProblemFault
+    ensures { IsRefusal (Some (shape_at (class.now.name ∷ decimal place ∷ []))) result }
+{
+    let mut digits = Buffer::new();
+    shape_at(
+        alloc,
+        &[class.name.as_slice(), digits.format(place).as_bytes()],
+    )
+}
+
+/// The refusal of a member of a record of the class, by the record's place in its list.
+pub fn member_shape(alloc: Global, class: &ClassDef, place: usize, name: &[u8]) -> ProblemFault
+    ensures { IsRefusal (Some (shape_at (class.now.name ∷ decimal place ∷ name.now ∷ []))) result }
+{
+    let mut digits = Buffer::new();
+    shape_at(
+        alloc,
+        &[class.name.as_slice(), digits.format(place).as_bytes(), name],
+    )
+}

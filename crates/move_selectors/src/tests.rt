@@ -276,10 +276,11 @@ fn the_first_word_picks_a_selector(rt: HostRuntime) -> Result<(), Fail> {
 fn nothing_is_picked_of_an_empty_list(rt: HostRuntime) -> Result<(), Fail> {
     let alloc = rt.alloc();
     let schema = shifts(alloc)?;
-    let plan = plan_of(alloc, &schema, &[&[], &[(6, &[None])]])?;
+    let plan = plan_of(alloc, &schema, &[&[], &[]])?;
     let none: &[Case] = &[(FAR, None)];
     for selector in [
         Selector::Change,
+        Selector::Swap,
         Selector::PillarChange,
         Selector::PillarSwap,
         Selector::Own,

@@ -61,7 +61,7 @@ fn shifts(alloc: Global) -> Result<Schema, Fail> {
     Ok(Schema::build(classes)?)
 }
 
-fn plan_of(alloc: Global, schema: &Schema, classes: &[&[Sketch]]) -> Result<Plan, Fail> {
+fn plan_of<'a>(alloc: Global, schema: &Schema, classes: &'a [&'a [Sketch]]) -> Result<Plan, Fail> {
     let mut lists = List::new(alloc);
     for sketches in classes {
         lists.push(list_of(alloc, sketches)?)?;
@@ -272,12 +272,23 @@ fn the_first_word_picks_a_selector(rt: HostRuntime) -> Result<(), Fail> {
     expect(&rt, alloc, &schema, &plan, &selectors, cases)
 }
 
+fn expect_none(
+    rt: &impl Abort,
+    alloc: Global,
+    schema: &Schema,
+    plan: &Plan,
+    selector: Selector,
+) -> Result<(), Fail> {
+    let edit = candidate(alloc, schema, plan, &[selector], &[], &FAR)?;
+    assert!(rt; edit.is_none());
+    Ok(())
+}
+
 #[test]
 fn nothing_is_picked_of_an_empty_list(rt: HostRuntime) -> Result<(), Fail> {
     let alloc = rt.alloc();
     let schema = shifts(alloc)?;
     let plan = plan_of(alloc, &schema, &[&[], &[]])?;
-    let none: &[Case] = &[(FAR, None)];
     for selector in [
         Selector::Change,
         Selector::Swap,
@@ -285,7 +296,7 @@ fn nothing_is_picked_of_an_empty_list(rt: HostRuntime) -> Result<(), Fail> {
         Selector::PillarSwap,
         Selector::Own,
     ] {
-        expect(&rt, alloc, &schema, &plan, &[selector], none)?;
+        expect_none(&rt, alloc, &schema, &plan, selector)?;
     }
     Ok(())
 }

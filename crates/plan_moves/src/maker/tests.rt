@@ -1,4 +1,4 @@
-ghost use Rattle.std.specs.Prelude.{◌==◌, if◌then◌else◌, [], ◌∷◌, Some, None, slice_index};
+ghost use Rattle.std.specs.Prelude.{◌≡◌, ◌==◌, if◌then◌else◌, [], ◌∷◌, Some, None, slice_index};
 
 use super::*;
 use crate::edit::Set;

@@ -11,3 +11,6 @@ mod swaps;
 mod values;
 
 pub use selectors::candidate;
+
+#[cfg(test)]
+mod tests;

@@ -1,24 +1,23 @@
 -- What the reading of the records answers.
-use Rattle.std.proofs.Common.{◌≡◌, ◌∙◌, ◌⊎◌, inl, inr, ℕ, ◌<◌, ◌≤◌, Bool, true, false, cond, nat_lt, List, [], ◌∷◌, Option, Some, None, is_some, unwrap_or, option_and_then, option_map, length, take, get_or, codes, refl, sym, ap, subst, arith}
+use Rattle.std.proofs.Common.{◌≡◌, ◌∙◌, ℕ, ◌<◌, ◌≤◌, true, false, cond, nat_lt, List, [], Option, Some, None, is_some, unwrap_or, option_and_then, option_map, length, get_or, codes, refl, sym, ap, arith}
 use Rattle.std.specs.Option.{option_or, option_map_or}
 use Rattle.std.proofs.lemmas.Bool.Decides.{nat_tests}
 use Rattle.serde_json.specs.Data.{Data}
 use Rattle.serde_json.specs.Find.{get}
 use Rattle.json_values.specs.Values.{items_of}
 use Rattle.plan_facts.specs.First.{first_fault}
-use Rattle.plan_facts.specs.Names.{number_of}
 use Rattle.plan_facts.specs.PlanFaults.{plan_of, plan_fault}
 use Rattle.plan_facts.specs.PlanFaults.{IsRefusal as IsPlanRefusal}
 use Rattle.plan_facts.specs.declared.record.ClassDef.{ClassDef}
 use Rattle.plan_facts.specs.declared.record.Raw.{Raw}
 use Rattle.plan_facts.specs.declared.fault.PlanFault.{PlanFault}
-use Rattle.plan_facts.specs.declared.fault.PlanFault.TheVariants.{Memory, ClassCount, FieldCount, BadId, FieldRange}
-use Rattle.plan_facts.specs.declared.fault.PlanFault.TheVariants.{BadValue as PlanBadValue, TooManyFacts as PlanTooManyFacts}
+use Rattle.plan_facts.specs.declared.fault.PlanFault.TheVariants.{Memory, BadId, FieldRange}
+use Rattle.plan_facts.specs.declared.fault.PlanFault.TheVariants.{BadValue as PlanBadValue}
 use Rattle.plan_facts.proofs.FirstLaws.{first_fault-none, option_or-none}
 use Rattle.plan_facts.proofs.PlanOf.{held_none}
 use Rattle.problem_faults.specs.declared.fault.ProblemFault.{ProblemFault}
 use Rattle.problem_faults.specs.declared.fault.ProblemFault.TheVariants.{TooManyFacts}
-use Rattle.problem_shapes.specs.Records.{records_of, id_in}
+use Rattle.problem_shapes.specs.Records.{id_in}
 use Rattle.problem_shapes.specs.Shapes.{bad_field, bad_variable, bad_member, record_shape_fault, list_shape_fault, class_shape_fault, shape_fault}
 use Rattle.problem_records.specs.Facts.{names_of, raws_of}
 use Rattle.problem_records.specs.RecordFaults.{count_of, class_fault, values_fault, records_fault}

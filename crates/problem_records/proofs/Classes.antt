@@ -1,6 +1,6 @@
 -- The records of all classes, as their classes judge them and as a plan does.
-use Rattle.std.proofs.Common.{◌≡◌, ◌∙◌, ℕ, ◌+◌, ◌<◌, ◌≤◌, Bool, true, false, cond, List, [], ◌∷◌, ◌++◌, Option, Some, None, is_some, length, take, map, zip, slice_get, get_or, codes, sum_by, inl, inr, refl, sym, ap, subst, arith}
-use Rattle.std.specs.Option.{option_or, option_map_or}
+use Rattle.std.proofs.Common.{◌≡◌, ◌∙◌, ℕ, ◌<◌, ◌≤◌, Bool, true, false, List, [], ◌∷◌, Option, Some, is_some, length, take, map, zip, slice_get, get_or, codes, sum_by, inl, inr, refl, sym, ap, subst, arith}
+use Rattle.std.specs.Option.{option_map_or}
 use Rattle.std.proofs.lemmas.Bool.{cases_lt}
 use Rattle.std.proofs.lemmas.List.{length-map, length-take-le, get_or-map}
 use Rattle.std.proofs.lemmas.List.Sums.{sum_by-cons}
@@ -9,7 +9,7 @@ use Rattle.serde_json.specs.Data.{Data}
 use Rattle.plan_facts.specs.First.{first_fault}
 use Rattle.plan_facts.specs.Names.{number_of}
 use Rattle.plan_facts.specs.Plan.{ClassView, record_with_id, is_live}
-use Rattle.plan_facts.specs.PlanFaults.{plan_of, plan_fault, lists_fault, ranges_of}
+use Rattle.plan_facts.specs.PlanFaults.{plan_of, plan_fault, ranges_of}
 use Rattle.plan_facts.specs.PlanFaults.{class_fault as plan_class_fault, class_values_fault as plan_class_values_fault, record_fault as plan_record_fault, record_values_fault as plan_record_values_fault}
 use Rattle.plan_facts.specs.declared.record.ClassDef.{ClassDef}
 use Rattle.plan_facts.specs.declared.record.Raw.{Raw}

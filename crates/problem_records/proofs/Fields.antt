@@ -1,17 +1,14 @@
 -- The fields, values and ids of a record, as its class judges them and as a plan does.
-use Rattle.std.proofs.Common.{◌≡◌, ◌∙◌, ℕ, ◌+◌, ◌<◌, ◌≤◌, ◌==◌, Bool, true, false, cond, ◌||◌, ◌&&◌, nat_lt, nat_le, ℤ, pos, negsuc, List, [], ◌∷◌, ◌++◌, Option, Some, None, is_some, unwrap_or, option_and_then, length, take, map, find, zip, slice_get, get_or, codes, refl, sym, ap, subst, arith}
-use Rattle.std.specs.Option.{option_or}
-use Rattle.std.specs.List.{list_any}
+use Rattle.std.proofs.Common.{◌≡◌, ◌∙◌, ℕ, ◌≤◌, ◌==◌, Bool, true, false, cond, ◌||◌, ◌&&◌, nat_lt, nat_le, ℤ, pos, negsuc, List, [], ◌∷◌, Option, Some, None, is_some, unwrap_or, option_and_then, length, take, map, zip, slice_get, get_or, codes, refl, sym, ap, arith}
 use Rattle.std.proofs.lemmas.List.{length-map, length-take-le}
 use Rattle.std.proofs.lemmas.Option.{slice_get-get_or}
 use Rattle.std.proofs.lemmas.Bool.Decides.{nat_tests}
-use Rattle.std.proofs.lemmas.Grind.{common_steps}
 use Rattle.serde_json.specs.Data.{Data}
 use Rattle.serde_json.specs.Find.{get}
 use Rattle.json_values.specs.Values.{within, whole_number, number_within}
 use Rattle.plan_facts.specs.First.{first_fault}
 use Rattle.plan_facts.specs.Names.{number_of}
-use Rattle.plan_facts.specs.Plan.{record_with_id, is_value_among}
+use Rattle.plan_facts.specs.Plan.{record_with_id}
 use Rattle.plan_facts.specs.PlanFaults.{is_field_number, number_fault, fields_fault, is_bad_id, ranges_of}
 use Rattle.plan_facts.specs.PlanFaults.{value_fault as plan_value_fault, values_fault as plan_values_fault, record_fault as plan_record_fault}
 use Rattle.plan_facts.specs.declared.record.ClassDef.{ClassDef}
@@ -20,15 +17,10 @@ use Rattle.plan_facts.specs.declared.record.VarDef.{VarDef}
 use Rattle.plan_facts.specs.declared.record.Kind.{Kind}
 use Rattle.plan_facts.specs.declared.record.Kind.TheVariants.{Number, Name}
 use Rattle.plan_facts.specs.declared.record.Raw.{Raw}
-use Rattle.plan_facts.specs.declared.fault.PlanFault.{PlanFault}
-use Rattle.plan_facts.specs.declared.fault.PlanFault.TheVariants.{FieldCount, FieldRange, BadId}
-use Rattle.plan_facts.specs.declared.fault.PlanFault.TheVariants.{BadValue as PlanBadValue}
 use Rattle.plan_facts.proofs.Places.{eqb_same}
-use Rattle.problem_faults.specs.declared.fault.ProblemFault.{ProblemFault}
-use Rattle.problem_faults.specs.declared.fault.ProblemFault.TheVariants.{DoubleId, BadField, BadValue}
 use Rattle.problem_shapes.specs.Records.{id_in, id_of}
 use Rattle.problem_records.specs.Facts.{by_kind, number_in, text_in}
-use Rattle.problem_records.specs.RecordFaults.{has_id, is_short_name, is_good_field, field_fault, record_fault, value_fault, has_record, id_fault}
+use Rattle.problem_records.specs.RecordFaults.{has_id, is_short_name, is_good_field, field_fault, record_fault, value_fault, has_record}
 use Rattle.problem_records.specs.Given.{given_number, given_field, given_raw, IsNamed}
 use Rattle.problem_records.proofs.Meets.{Meet, meet_or, meet_unless, meet_if, meet_first, zip-map_both, option_or-none_right}
 

@@ -1,11 +1,9 @@
 -- Records without a fault are given as they are.
-use Rattle.std.proofs.Common.{◌≡◌, ◌∙◌, ℕ, ◌<◌, ◌≤◌, Bool, true, false, cond, ℤ, pos, List, [], Option, Some, None, length, take, map, get_or, refl, sym, ap, arith}
-use Rattle.std.specs.Option.{option_or}
+use Rattle.std.proofs.Common.{◌≡◌, ℕ, Bool, true, false, cond, ℤ, pos, List, [], None, take, map, get_or, refl, ap}
 use Rattle.serde_json.specs.Data.{Data}
 use Rattle.plan_facts.specs.First.{first_fault}
 use Rattle.plan_facts.specs.Names.{number_of}
 use Rattle.plan_facts.specs.declared.record.ClassDef.{ClassDef}
-use Rattle.plan_facts.specs.declared.record.FieldDef.{FieldDef}
 use Rattle.plan_facts.specs.declared.record.Kind.{Kind}
 use Rattle.plan_facts.specs.declared.record.Kind.TheVariants.{Number, Name}
 use Rattle.plan_facts.specs.declared.record.Raw.{Raw}
@@ -14,7 +12,7 @@ use Rattle.plan_facts.proofs.PlanOf.{held_none}
 use Rattle.problem_shapes.specs.Records.{records_of, id_in, id_of}
 use Rattle.problem_records.specs.Facts.{by_kind, number_in, text_in, field_number, raw_of, names_of, raws_of}
 use Rattle.problem_records.specs.RecordFaults.{is_short_name, is_good_field, field_fault, record_fault, class_fault, id_fault}
-use Rattle.problem_records.specs.Given.{given_number, given_field, given_raw, given_class, given_lists}
+use Rattle.problem_records.specs.Given.{given_field, given_raw, given_class, given_lists}
 use Rattle.problem_records.proofs.Meets.{map_same}
 
 by_kind_given : (kind : Kind) (number : ℤ) (test short : Bool) (n : ℕ) → by_kind kind test short ≡ true → by_kind kind number (cond short (pos n) (pos 1000000001)) ≡ by_kind kind number (pos n)

@@ -5,6 +5,7 @@ use plan_facts::{ClassDef, FieldDef, Memory, PlanFault, Schema, VarDef};
 use problem_faults::ProblemFault;
 use std::alloc::Global;
 
+/// The fault of an id that stands twice in the class.
 fn double_id(alloc: Global, class: &ClassDef, id: u32) -> Result<ProblemFault, Memory>
     ensures { IfOk result (λ fault. fault ≡ ProblemFault.DoubleId class.now.name id) }
 {
@@ -12,6 +13,7 @@ fn double_id(alloc: Global, class: &ClassDef, id: u32) -> Result<ProblemFault, M
     Ok(ProblemFault::DoubleId { class, id })
 }
 
+/// The fault of a field that is out of range.
 fn bad_field(
     alloc: Global,
     class: &ClassDef,
@@ -25,6 +27,7 @@ fn bad_field(
     Ok(ProblemFault::BadField { class, id, field })
 }
 
+/// The fault of a variable that holds no record of its value class.
 fn bad_value(alloc: Global, class: &ClassDef, id: u32, var: &VarDef) -> Result<ProblemFault, Memory>
     ensures { IfOk result (λ fault. fault ≡ ProblemFault.BadValue class.now.name id var.now.name) }
 {

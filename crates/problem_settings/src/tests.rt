@@ -6,6 +6,7 @@ use plan_scores::Level;
 use plan_settings::{AcceptorKind, Early, Selector};
 use problem_faults::{ProblemFault, write_refusal};
 use std::alloc::Global;
+use std::process::Abort;
 use std::test::Fail;
 
 /// The line of a refusal; no bytes where nothing is refused.
@@ -17,93 +18,156 @@ fn line<T: Drop>(alloc: Global, answer: Result<T, ProblemFault>) -> Result<Vec<u
     Ok(out)
 }
 
+/// Roots, beside what is written of them.
+const ROOTS: [(&[u8], &[u8]); 16] = [
+    (b"{\"format\":1,\"domain\":\"chess\",\"facts\":{}}", b""),
+    (
+        b"{\"facts\":{},\"weights\":{},\"settings\":{},\"domain\":\"\",\"format\":1}",
+        b"",
+    ),
+    (b"null", b"refused problem shape /\n"),
+    (b"[]", b"refused problem shape /\n"),
+    (b"{}", b"refused problem shape /format\n"),
+    (b"{\"format\":2}", b"refused problem shape /format\n"),
+    (b"{\"format\":1.0}", b"refused problem shape /format\n"),
+    (b"{\"format\":\"1\"}", b"refused problem shape /format\n"),
+    (
+        b"{\"format\":1,\"format\":2}",
+        b"refused problem shape /format\n",
+    ),
+    (b"{\"format\":1}", b"refused problem shape /domain\n"),
+    (
+        b"{\"format\":1,\"domain\":7}",
+        b"refused problem shape /domain\n",
+    ),
+    (
+        b"{\"format\":1,\"domain\":\"a\",\"settings\":null,\"weights\":1}",
+        b"refused problem shape /settings\n",
+    ),
+    (
+        b"{\"format\":1,\"domain\":\"a\",\"weights\":[]}",
+        b"refused problem shape /weights\n",
+    ),
+    (
+        b"{\"format\":1,\"domain\":\"a\",\"x\":1}",
+        b"refused problem shape /facts\n",
+    ),
+    (
+        b"{\"format\":1,\"domain\":\"a\",\"facts\":[]}",
+        b"refused problem shape /facts\n",
+    ),
+    (
+        b"{\"format\":1,\"domain\":\"a\",\"facts\":{},\"Facts\":{}}",
+        b"refused problem shape /\n",
+    ),
+];
+
+/// Settings, beside what is written of them.
+const SETTINGS: [(&[u8], &[u8]); 23] = [
+    (b"{}", b""),
+    (b"{\"seed\":18446744073709551615,\"steps\":1000000}", b""),
+    (
+        b"{\"selectors\":[\"own\",\"own\",\"own\",\"own\",\"own\",\"own\",\"own\",\"own\"]}",
+        b"",
+    ),
+    (b"{\"seed\":-1}", b"refused problem setting seed\n"),
+    (b"{\"seed\":1.0}", b"refused problem setting seed\n"),
+    (
+        b"{\"seed\":18446744073709551616}",
+        b"refused problem setting seed\n",
+    ),
+    (b"{\"steps\":1000001}", b"refused problem setting steps\n"),
+    (b"{\"steps\":1e3}", b"refused problem setting steps\n"),
+    (
+        b"{\"select_limit\":0,\"steps\":null}",
+        b"refused problem setting steps\n",
+    ),
+    (
+        b"{\"select_limit\":0}",
+        b"refused problem setting select_limit\n",
+    ),
+    (
+        b"{\"accepted_limit\":10001}",
+        b"refused problem setting accepted_limit\n",
+    ),
+    (
+        b"{\"pick_early\":\"Best\"}",
+        b"refused problem setting pick_early\n",
+    ),
+    (
+        b"{\"pick_early\":0}",
+        b"refused problem setting pick_early\n",
+    ),
+    (
+        b"{\"acceptor\":\"\"}",
+        b"refused problem setting acceptor\n",
+    ),
+    (
+        b"{\"late_size\":\"400\"}",
+        b"refused problem setting late_size\n",
+    ),
+    (b"{\"tabu_size\":0}", b"refused problem setting tabu_size\n"),
+    (
+        b"{\"step_count_size\":0}",
+        b"refused problem setting step_count_size\n",
+    ),
+    (
+        b"{\"selectors\":[]}",
+        b"refused problem setting selectors\n",
+    ),
+    (
+        b"{\"selectors\":\"own\"}",
+        b"refused problem setting selectors\n",
+    ),
+    (
+        b"{\"selectors\":[\"own\",\"none\"]}",
+        b"refused problem setting selectors\n",
+    ),
+    (
+        b"{\"selectors\":[\"own\",\"own\",\"own\",\"own\",\"own\",\"own\",\"own\",\"own\",\"own\"]}",
+        b"refused problem setting selectors\n",
+    ),
+    (b"{\"colour\":1}", b"refused problem shape /settings\n"),
+    (
+        b"{\"colour\":1,\"selectors\":[]}",
+        b"refused problem setting selectors\n",
+    ),
+];
+
+fn try_root(rt: &impl Abort, alloc: Global, text: &[u8], wanted: &[u8]) -> Result<(), Fail> {
+    let root = read_value(alloc, text)?;
+    assert_eq!(rt; line(alloc, check_root(alloc, &root))?.as_slice(), wanted);
+    Ok(())
+}
+
 #[test]
 fn refuses_roots_by_the_first_wrong_member(rt: HostRuntime) -> Result<(), Fail> {
-    let cases = [
-        ("{\"format\":1,\"domain\":\"chess\",\"facts\":{}}", ""),
-        (
-            "{\"facts\":{},\"weights\":{},\"settings\":{},\"domain\":\"\",\"format\":1}",
-            "",
-        ),
-        ("null", "/"),
-        ("[]", "/"),
-        ("{}", "/format"),
-        ("{\"format\":2}", "/format"),
-        ("{\"format\":1.0}", "/format"),
-        ("{\"format\":\"1\"}", "/format"),
-        ("{\"format\":1,\"format\":2}", "/format"),
-        ("{\"format\":1}", "/domain"),
-        ("{\"format\":1,\"domain\":7}", "/domain"),
-        (
-            "{\"format\":1,\"domain\":\"a\",\"settings\":null,\"weights\":1}",
-            "/settings",
-        ),
-        ("{\"format\":1,\"domain\":\"a\",\"weights\":[]}", "/weights"),
-        ("{\"format\":1,\"domain\":\"a\",\"x\":1}", "/facts"),
-        ("{\"format\":1,\"domain\":\"a\",\"facts\":[]}", "/facts"),
-        (
-            "{\"format\":1,\"domain\":\"a\",\"facts\":{},\"Facts\":{}}",
-            "/",
-        ),
-    ];
-    for (text, path) in cases {
-        let root = read_value(rt.alloc(), text.as_bytes())?;
-        let refusal = line(rt.alloc(), check_root(rt.alloc(), &root))?;
-        let wanted = if path == "" {
-            String::new(rt.alloc())
-        } else {
-            format!(in rt.alloc(); "refused problem shape {path}\n")?
-        };
-        assert_eq!(rt; refusal.as_slice(), wanted.as_bytes(), "{text}");
+    for (text, wanted) in &ROOTS {
+        try_root(&rt, rt.alloc(), text, wanted)?;
     }
+    Ok(())
+}
+
+fn try_settings(rt: &impl Abort, alloc: Global, text: &[u8], wanted: &[u8]) -> Result<(), Fail> {
+    let value = read_value(alloc, text)?;
+    assert_eq!(rt;
+        line(alloc, read_settings(alloc, Some(&value)))?.as_slice(),
+        wanted
+    );
     Ok(())
 }
 
 #[test]
 fn refuses_settings_in_their_order(rt: HostRuntime) -> Result<(), Fail> {
-    let cases = [
-        ("{}", ""),
-        ("{\"seed\":18446744073709551615,\"steps\":1000000}", ""),
-        (
-            "{\"selectors\":[\"own\",\"own\",\"own\",\"own\",\"own\",\"own\",\"own\",\"own\"]}",
-            "",
-        ),
-        ("{\"seed\":-1}", "setting seed"),
-        ("{\"seed\":1.0}", "setting seed"),
-        ("{\"seed\":18446744073709551616}", "setting seed"),
-        ("{\"steps\":1000001}", "setting steps"),
-        ("{\"steps\":1e3}", "setting steps"),
-        ("{\"select_limit\":0,\"steps\":null}", "setting steps"),
-        ("{\"select_limit\":0}", "setting select_limit"),
-        ("{\"accepted_limit\":10001}", "setting accepted_limit"),
-        ("{\"pick_early\":\"Best\"}", "setting pick_early"),
-        ("{\"pick_early\":0}", "setting pick_early"),
-        ("{\"acceptor\":\"\"}", "setting acceptor"),
-        ("{\"late_size\":\"400\"}", "setting late_size"),
-        ("{\"tabu_size\":0}", "setting tabu_size"),
-        ("{\"step_count_size\":0}", "setting step_count_size"),
-        ("{\"selectors\":[]}", "setting selectors"),
-        ("{\"selectors\":\"own\"}", "setting selectors"),
-        ("{\"selectors\":[\"own\",\"none\"]}", "setting selectors"),
-        (
-            "{\"selectors\":[\"own\",\"own\",\"own\",\"own\",\"own\",\"own\",\"own\",\"own\",\"own\"]}",
-            "setting selectors",
-        ),
-        ("{\"colour\":1}", "shape /settings"),
-        ("{\"colour\":1,\"selectors\":[]}", "setting selectors"),
-    ];
-    for (text, words) in cases {
-        let value = read_value(rt.alloc(), text.as_bytes())?;
-        let refusal = line(rt.alloc(), read_settings(rt.alloc(), Some(&value)))?;
-        let wanted = if words == "" {
-            String::new(rt.alloc())
-        } else {
-            format!(in rt.alloc(); "refused problem {words}\n")?
-        };
-        assert_eq!(rt; refusal.as_slice(), wanted.as_bytes(), "{text}");
+    for (text, wanted) in &SETTINGS {
+        try_settings(&rt, rt.alloc(), text, wanted)?;
     }
     Ok(())
 }
+
+/// Settings that say all.
+const TOLD: &[u8] =
+    b"{\"seed\":18446744073709551615,\"steps\":0,\"select_limit\":2,\"accepted_limit\":3,\"pick_early\":\"last\",\"acceptor\":\"step_count\",\"late_size\":4,\"tabu_size\":5,\"step_count_size\":10000,\"selectors\":[\"pillar_swap\",\"own\",\"pillar_change\",\"own\"]}";
 
 #[test]
 fn reads_settings(rt: HostRuntime) -> Result<(), Fail> {
@@ -129,9 +193,7 @@ fn reads_settings(rt: HostRuntime) -> Result<(), Fail> {
         usual.selectors.as_slice(),
         [Selector::Change, Selector::Swap].as_slice()
     );
-    let text =
-        b"{\"seed\":18446744073709551615,\"steps\":0,\"select_limit\":2,\"accepted_limit\":3,\"pick_early\":\"last\",\"acceptor\":\"step_count\",\"late_size\":4,\"tabu_size\":5,\"step_count_size\":10000,\"selectors\":[\"pillar_swap\",\"own\",\"pillar_change\",\"own\"]}";
-    let value = read_value(rt.alloc(), text)?;
+    let value = read_value(rt.alloc(), TOLD)?;
     let read = read_settings(rt.alloc(), Some(&value))?;
     assert_eq!(rt;
         (
@@ -161,9 +223,9 @@ fn reads_settings(rt: HostRuntime) -> Result<(), Fail> {
 }
 
 /// A rule with this name and weight.
-fn rule(alloc: Global, name: &str, weight: u32) -> Result<RuleDef, Memory> {
+fn rule(alloc: Global, name: &[u8], weight: u32) -> Result<RuleDef, Memory> {
     Ok(RuleDef {
-        name: Text::from_slice(alloc, name.as_bytes())?,
+        name: Text::from_slice(alloc, name)?,
         level: Level::Hard,
         reward: false,
         weight,
@@ -173,48 +235,74 @@ fn rule(alloc: Global, name: &str, weight: u32) -> Result<RuleDef, Memory> {
     })
 }
 
+/// Two rules, of weight 1 and 7.
+fn rules(alloc: Global) -> Result<List<RuleDef>, Memory> {
+    let mut rules = List::new(alloc);
+    rules.push(rule(alloc, b"room_conflict", 1)?)?;
+    rules.push(rule(alloc, b"room_size", 7)?)?;
+    Ok(rules)
+}
+
+/// Weights that are refused, beside what is written of them.
+const BAD_WEIGHTS: [(&[u8], &[u8]); 6] = [
+    (
+        b"{\"room_size\":1000001}",
+        b"refused problem shape /weights/room_size\n",
+    ),
+    (
+        b"{\"room_size\":-1}",
+        b"refused problem shape /weights/room_size\n",
+    ),
+    (
+        b"{\"room_size\":1.0}",
+        b"refused problem shape /weights/room_size\n",
+    ),
+    (
+        b"{\"rum\":1,\"room_size\":null,\"room_conflict\":\"1\"}",
+        b"refused problem shape /weights/room_conflict\n",
+    ),
+    (b"{\"rum\":1}", b"refused problem shape /weights\n"),
+    (b"{\"\":1}", b"refused problem shape /weights\n"),
+];
+
+/// Weights, beside the weights of the two rules.
+const WEIGHTS: [(&[u8], [u32; 2]); 3] = [
+    (b"{}", [1, 7]),
+    (b"{\"room_size\":0}", [1, 0]),
+    (
+        b"{\"room_size\":1,\"room_conflict\":1000000}",
+        [1_000_000, 1],
+    ),
+];
+
+fn try_bad_weights(rt: &impl Abort, alloc: Global, text: &[u8], wanted: &[u8]) -> Result<(), Fail> {
+    let value = read_value(alloc, text)?;
+    let answer = read_weights(alloc, rules(alloc)?.as_slice(), Some(&value));
+    assert_eq!(rt; line(alloc, answer)?.as_slice(), wanted);
+    Ok(())
+}
+
+#[test]
+fn refuses_weights_in_rule_order(rt: HostRuntime) -> Result<(), Fail> {
+    for (text, wanted) in &BAD_WEIGHTS {
+        try_bad_weights(&rt, rt.alloc(), text, wanted)?;
+    }
+    Ok(())
+}
+
+fn try_weights(rt: &impl Abort, alloc: Global, text: &[u8], wanted: &[u32]) -> Result<(), Fail> {
+    let value = read_value(alloc, text)?;
+    let read = read_weights(alloc, rules(alloc)?.as_slice(), Some(&value))?;
+    assert_eq!(rt; read.as_slice(), wanted);
+    Ok(())
+}
+
 #[test]
 fn reads_weights_in_rule_order(rt: HostRuntime) -> Result<(), Fail> {
-    let mut rules = List::new(rt.alloc());
-    rules.push(rule(rt.alloc(), "room_conflict", 1)?)?;
-    rules.push(rule(rt.alloc(), "room_size", 7)?)?;
-    assert_eq!(rt;
-        read_weights(rt.alloc(), rules.as_slice(), None)?.as_slice(),
-        [1, 7].as_slice()
-    );
-    let cases: [(&str, Option<[u32; 2]>, &str); 9] = [
-        ("{}", Some([1, 7]), ""),
-        ("{\"room_size\":0}", Some([1, 0]), ""),
-        (
-            "{\"room_size\":1,\"room_conflict\":1000000}",
-            Some([1_000_000, 1]),
-            "",
-        ),
-        ("{\"room_size\":1000001}", None, "/weights/room_size"),
-        ("{\"room_size\":-1}", None, "/weights/room_size"),
-        ("{\"room_size\":1.0}", None, "/weights/room_size"),
-        (
-            "{\"rum\":1,\"room_size\":null,\"room_conflict\":\"1\"}",
-            None,
-            "/weights/room_conflict",
-        ),
-        ("{\"rum\":1}", None, "/weights"),
-        ("{\"\":1}", None, "/weights"),
-    ];
-    for (text, weights, path) in cases {
-        let value = read_value(rt.alloc(), text.as_bytes())?;
-        match read_weights(rt.alloc(), rules.as_slice(), Some(&value)) {
-            Ok(read) => {
-                let wanted = weights.ok_or("read what is to be refused")?;
-                assert_eq!(rt; read.as_slice(), wanted.as_slice(), "{text}");
-            }
-            Err(fault) => {
-                let mut out = Vec::new(rt.alloc());
-                write_refusal(&fault, &mut out)?;
-                let wanted = format!(in rt.alloc(); "refused problem shape {path}\n")?;
-                assert_eq!(rt; out.as_slice(), wanted.as_bytes(), "{text}");
-            }
-        }
+    for (text, wanted) in &WEIGHTS {
+        try_weights(&rt, rt.alloc(), text, wanted)?;
     }
+    let own = read_weights(rt.alloc(), rules(rt.alloc())?.as_slice(), None)?;
+    assert_eq!(rt; own.as_slice(), [1, 7].as_slice());
     Ok(())
 }

@@ -1,5 +1,5 @@
 -- The keys of an object among names.
-use Rattle.std.proofs.Common.{◌≡◌, ◌∙◌, ℕ, List, [], ◌∷◌, ◌++◌, Bool, ◌||◌, false, not, map, codes, Some, None, String, Global, string_bytes, refl, sym, ap}
+use Rattle.std.proofs.Common.{◌≡◌, ◌∙◌, ℕ, List, [], ◌∷◌, Bool, ◌||◌, false, not, map, codes, Some, None, String, Global, string_bytes, refl, sym, ap}
 use Rattle.std.specs.List.{list_any}
 use Rattle.std.specs.Map.{keys_of as map_keys}
 use Rattle.std.specs.Str.{bytes_eq}

@@ -1,16 +1,14 @@
 -- How a loop over records and classes finds the first fault.
-use Rattle.std.proofs.Common.{◌≡◌, ◌∙◌, ℕ, ◌+◌, ◌<◌, ◌≤◌, List, [], Option, Some, None, length, take, drop, get_or, slice_get, map, refl, sym, ap, arith}
+use Rattle.std.proofs.Common.{◌≡◌, ◌∙◌, ℕ, ◌+◌, ◌<◌, ◌≤◌, List, Option, Some, None, length, take, drop, get_or, slice_get, map, sym, ap, arith}
 use Rattle.std.specs.Option.{option_or}
 use Rattle.std.proofs.lemmas.List.{length-map, length-take-le, get_or-map}
 use Rattle.std.proofs.lemmas.Option.{get_or_from_slice_get}
-use Rattle.serde_json.specs.Data.{Data, null}
 use Rattle.serde_json.specs.View.{view}
 use Rattle.serde_json.specs.declared.value.Value.{Value}
 use Rattle.plan_facts.specs.First.{first_fault}
 use Rattle.plan_facts.specs.declared.record.ClassDef.{ClassDef}
 use Rattle.plan_facts.proofs.FirstLaws.{first_fault-from, first_fault-end}
-use Rattle.problem_faults.specs.declared.fault.ProblemFault.{ProblemFault}
-use Rattle.problem_shapes.specs.Shapes.{record_shape_at, record_shape_fault, class_shape_fault}
+use Rattle.problem_shapes.specs.Shapes.{record_shape_at, record_shape_fault}
 
 -- what stands from a record on is judged by that record first
 pub record_at : (class : ClassDef) (records : List Value) (k : ℕ) (entry : Value) → k < length records → entry ≡ get_or records k entry →

@@ -1,5 +1,5 @@
 -- How the first of several faults is found, one after the other.
-use Rattle.std.proofs.Common.{◌≡◌, ◌∙◌, ◌⊎◌, inl, inr, Option, None, ap}
+use Rattle.std.proofs.Common.{◌≡◌, ◌∙◌, inl, inr, Option, None, ap}
 use Rattle.std.specs.Option.{option_or}
 use Rattle.problem_faults.specs.declared.fault.ProblemFault.{ProblemFault}
 use Rattle.problem_faults.specs.Refusals.{IsRefusal}

@@ -1,8 +1,7 @@
-use Rattle.std.proofs.Common.{◌≡◌, ◌∙◌, ◌≤◌, inr, sym, ap, length, false, arith}
+use Rattle.std.proofs.Common.{◌∙◌, ◌≤◌, inr, sym, ap, length, arith}
 use Rattle.std.proofs.lemmas.Result.{err_from_is_err_and}
 use Rattle.serde_json.specs.View.{view}
 use Rattle.problem_shapes.proofs.Refused.{refused_first}
-use Rattle.problem_records.specs.RecordFaults.{count_of}
 use Rattle.problem_records.proofs.Answered.{IsGiven, shape_counts, number_counts, no_fault, same_plan, can_be_named, refused_by_name}
 use Rattle.problem_records.proofs.records.read_records.Goals as goal
 

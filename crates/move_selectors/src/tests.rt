@@ -1,0 +1,339 @@
+ghost use Rattle.std.specs.Prelude.{[], ◌∷◌, Some, None, slice_index};
+
+use crate::candidate;
+use plan_facts::{ClassDef, List, Memory, Plan, Raw, Schema, Text, VarDef};
+use plan_moves::{Edit, MoveMaker, Set};
+use plan_settings::Selector;
+use std::alloc::Global;
+use std::process::Abort;
+use std::test::Fail;
+
+/// A fact's id, and the values of its variables.
+type Sketch = (u32, &'static [Option<u32>]);
+
+/// The id of an entity, a variable, and the value that it gets.
+type Change = (u32, u8, Option<u32>);
+
+/// Eight words, and what the edit that they make changes; or that they make none.
+type Case = ([u32; 8], Option<&'static [Change]>);
+
+fn class_of(alloc: Global, name: &str, vars: &[(&'static str, u8)]) -> Result<ClassDef, Memory> {
+    let mut var_defs = List::new(alloc);
+    for var in vars {
+        var_defs.push(VarDef {
+            name: Text::from_slice(alloc, var.0.as_bytes())?,
+            values: var.1,
+        })?;
+    }
+    Ok(ClassDef {
+        name: Text::from_slice(alloc, name.as_bytes())?,
+        fields: List::new(alloc),
+        vars: var_defs,
+    })
+}
+
+fn list_of(alloc: Global, sketches: &[Sketch]) -> Result<List<Raw>, Memory> {
+    let mut raws = List::new(alloc);
+    for sketch in sketches {
+        raws.push(Raw {
+            id: sketch.0,
+            fields: List::new(alloc),
+            values: List::from_slice(alloc, sketch.1)?,
+        })?;
+    }
+    Ok(raws)
+}
+
+/// Slots, rooms, and lessons with a slot and a room.
+fn lessons(alloc: Global) -> Result<Schema, Fail> {
+    let mut classes = List::new(alloc);
+    classes.push(class_of(alloc, "slot", &[])?)?;
+    classes.push(class_of(alloc, "room", &[])?)?;
+    classes.push(class_of(alloc, "lesson", &[("slot", 0), ("room", 1)])?)?;
+    Ok(Schema::build(classes)?)
+}
+
+/// Employees, and shifts with a worker.
+fn shifts(alloc: Global) -> Result<Schema, Fail> {
+    let mut classes = List::new(alloc);
+    classes.push(class_of(alloc, "employee", &[])?)?;
+    classes.push(class_of(alloc, "shift", &[("worker", 0)])?)?;
+    Ok(Schema::build(classes)?)
+}
+
+fn plan_of<'a>(alloc: Global, schema: &Schema, classes: &'a [&'a [Sketch]]) -> Result<Plan, Fail> {
+    let mut lists = List::new(alloc);
+    for sketches in classes {
+        lists.push(list_of(alloc, sketches)?)?;
+    }
+    Ok(Plan::of(alloc, schema, lists)?)
+}
+
+fn expect_sets(rt: &impl Abort, edit: &Edit, changes: &[Change]) {
+    let sets = edit.sets();
+    assert_eq!(rt; sets.len(), changes.len());
+    for (set, change) in sets.iter().zip(changes) {
+        assert_eq!(rt; (set.id, set.var, set.value), *change);
+    }
+}
+
+fn expect(
+    rt: &impl Abort,
+    alloc: Global,
+    schema: &Schema,
+    plan: &Plan,
+    selectors: &[Selector],
+    cases: &[Case],
+) -> Result<(), Fail> {
+    assert!(rt; selectors.len() >= 1 && selectors.len() <= 8);
+    for case in cases {
+        let edit = candidate(alloc, schema, plan, selectors, &[], &case.0)?;
+        match (edit, case.1) {
+            (Some(edit), Some(changes)) => expect_sets(rt, &edit, changes),
+            (edit, changes) => assert!(rt; edit.is_none() && changes.is_none()),
+        }
+    }
+    Ok(())
+}
+
+// The words and edits of these tests are of another program, but for those of pillar swaps, which were made by hand.
+const FAR: [u32; 8] = [
+    1810801215, 3946927066, 4236919332, 943121706, 4079194633, 1129231419, 2633946611, 373312842,
+];
+
+const NEAR: [u32; 8] = [
+    1911191026, 103153208, 2761401032, 249672688, 892392466, 785518867, 1746317945, 1932094779,
+];
+
+const TWICE: [u32; 8] = [
+    1959725, 1734584660, 1651091372, 1676425974, 2293775675, 4183126587, 2306262737, 2130298245,
+];
+
+#[test]
+fn one_variable_of_a_lesson_changes(rt: HostRuntime) -> Result<(), Fail> {
+    let alloc = rt.alloc();
+    let schema = lessons(alloc)?;
+    let plan = plan_of(
+        alloc,
+        &schema,
+        &[
+            &[(1, &[]), (2, &[]), (3, &[])],
+            &[(1, &[]), (2, &[]), (3, &[])],
+            &[
+                (1, &[Some(3), Some(3)]),
+                (3, &[None, None]),
+                (8, &[Some(1), Some(3)]),
+                (20, &[None, None]),
+                (31, &[Some(3), Some(2)]),
+            ],
+        ],
+    )?;
+    let cases: &[Case] = &[
+        (FAR, Some(&[(31, 1, Some(1))])),
+        (NEAR, Some(&[(1, 1, Some(1))])),
+        (TWICE, Some(&[(8, 0, Some(2))])),
+    ];
+    expect(&rt, alloc, &schema, &plan, &[Selector::Change], cases)
+}
+
+#[test]
+fn lessons_and_pillars_of_lessons_swap(rt: HostRuntime) -> Result<(), Fail> {
+    let alloc = rt.alloc();
+    let schema = lessons(alloc)?;
+    let plan = plan_of(
+        alloc,
+        &schema,
+        &[
+            &[(26, &[]), (36, &[]), (38, &[])],
+            &[(1, &[]), (2, &[]), (3, &[])],
+            &[
+                (1, &[Some(36), Some(3)]),
+                (2, &[Some(36), Some(1)]),
+                (3, &[None, Some(2)]),
+                (4, &[Some(38), Some(2)]),
+                (5, &[None, None]),
+                (6, &[None, None]),
+                (7, &[Some(38), Some(2)]),
+                (8, &[Some(38), Some(2)]),
+                (9, &[Some(38), None]),
+            ],
+        ],
+    )?;
+    let swaps: &[Case] = &[
+        (
+            FAR,
+            Some(&[
+                (2, 0, Some(38)),
+                (2, 1, None),
+                (9, 0, Some(36)),
+                (9, 1, Some(1)),
+            ]),
+        ),
+        (
+            NEAR,
+            Some(&[
+                (1, 0, None),
+                (1, 1, None),
+                (6, 0, Some(36)),
+                (6, 1, Some(3)),
+            ]),
+        ),
+        (TWICE, None),
+    ];
+    expect(&rt, alloc, &schema, &plan, &[Selector::Swap], swaps)?;
+    let pillar_swaps: &[Case] = &[
+        (
+            FAR,
+            Some(&[
+                (1, 0, Some(38)),
+                (1, 1, Some(2)),
+                (4, 0, Some(36)),
+                (4, 1, Some(3)),
+                (7, 0, Some(36)),
+                (7, 1, Some(3)),
+                (8, 0, Some(36)),
+                (8, 1, Some(3)),
+            ]),
+        ),
+        (
+            NEAR,
+            Some(&[
+                (1, 0, Some(36)),
+                (1, 1, Some(1)),
+                (2, 0, Some(36)),
+                (2, 1, Some(3)),
+            ]),
+        ),
+        (TWICE, None),
+    ];
+    expect(
+        &rt,
+        alloc,
+        &schema,
+        &plan,
+        &[Selector::PillarSwap],
+        pillar_swaps,
+    )
+}
+
+#[test]
+fn the_first_word_picks_a_selector(rt: HostRuntime) -> Result<(), Fail> {
+    let alloc = rt.alloc();
+    let schema = shifts(alloc)?;
+    let plan = plan_of(
+        alloc,
+        &schema,
+        &[
+            &[(1, &[]), (2, &[])],
+            &[
+                (6, &[Some(1)]),
+                (10, &[Some(1)]),
+                (18, &[Some(1)]),
+                (25, &[Some(2)]),
+                (32, &[Some(1)]),
+                (38, &[None]),
+            ],
+        ],
+    )?;
+    let selectors = [
+        Selector::Swap,
+        Selector::PillarChange,
+        Selector::Swap,
+        Selector::PillarChange,
+    ];
+    let cases: &[Case] = &[
+        (
+            [
+                1305573385, 3268878615, 2552055323, 98194512, 1714536640, 750721209, 3217129798,
+                3372912574,
+            ],
+            Some(&[(25, 0, Some(1))]),
+        ),
+        (
+            [
+                2070992122, 3746977884, 1454116646, 1520110881, 3101997295, 82337386, 344218180,
+                2611292624,
+            ],
+            Some(&[
+                (6, 0, Some(2)),
+                (10, 0, Some(2)),
+                (18, 0, Some(2)),
+                (32, 0, Some(2)),
+            ]),
+        ),
+        (
+            [
+                2814512272, 2074966623, 3967452325, 3176870237, 3183401454, 1782594468, 2144551957,
+                3652632160,
+            ],
+            Some(&[(32, 0, None), (38, 0, Some(1))]),
+        ),
+    ];
+    expect(&rt, alloc, &schema, &plan, &selectors, cases)
+}
+
+fn expect_none(
+    rt: &impl Abort,
+    alloc: Global,
+    schema: &Schema,
+    plan: &Plan,
+    selector: Selector,
+) -> Result<(), Fail> {
+    let edit = candidate(alloc, schema, plan, &[selector], &[], &FAR)?;
+    assert!(rt; edit.is_none());
+    Ok(())
+}
+
+#[test]
+fn nothing_is_picked_of_an_empty_list(rt: HostRuntime) -> Result<(), Fail> {
+    let alloc = rt.alloc();
+    let schema = shifts(alloc)?;
+    let plan = plan_of(alloc, &schema, &[&[], &[]])?;
+    for selector in [
+        Selector::Change,
+        Selector::Swap,
+        Selector::PillarChange,
+        Selector::PillarSwap,
+        Selector::Own,
+    ] {
+        expect_none(&rt, alloc, &schema, &plan, selector)?;
+    }
+    Ok(())
+}
+
+/// Clears one variable of the fact whose id is the last word.
+#[derive(Drop)]
+struct Clears {
+    var: u8,
+}
+
+impl MoveMaker for Clears {
+    ghost made = { λ maker _ words. Some (record { class = 1; id = slice_index words 7; var = maker.var; value = None } ∷ []) };
+
+    fn make(&self, _: &Plan, words: &[u32; 8], into: &mut Edit) -> Result<bool, Memory> {
+        into.put(Set {
+            class: 1,
+            id: words[7],
+            var: self.var,
+            value: None,
+        })
+    }
+}
+
+#[test]
+fn the_second_word_picks_a_maker(rt: HostRuntime) -> Result<(), Fail> {
+    let alloc = rt.alloc();
+    let schema = shifts(alloc)?;
+    let plan = plan_of(alloc, &schema, &[&[], &[]])?;
+    let first: Box<dyn MoveMaker> = Box::new(alloc, Clears { var: 4 })?;
+    let second: Box<dyn MoveMaker> = Box::new(alloc, Clears { var: 5 })?;
+    let makers = [first, second];
+    for (words, change) in [
+        ([9, 2147483647, 0, 0, 0, 0, 0, 6], (6, 4, None)),
+        ([9, 2147483648, 0, 0, 0, 0, 0, 7], (7, 5, None)),
+    ] {
+        let edit = candidate(alloc, &schema, &plan, &[Selector::Own], &makers, &words)?;
+        expect_sets(&rt, &edit.ok_or("no edit")?, &[change]);
+    }
+    Ok(())
+}

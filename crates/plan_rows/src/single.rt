@@ -1,0 +1,73 @@
+ghost use Rattle.std.specs.Prelude.{◌≡◌};
+ghost use Rattle.plan_rules.specs.Rows.{is_placed};
+
+use plan_facts::{Memory, Rec};
+use plan_rules::{Part, Row};
+use std::alloc::Global;
+use std::marker::Model;
+
+/// A resolved record, kept as the row of it alone.
+#[derive(Drop)]
+pub struct Single {
+    row: Row,
+    placed: bool,
+}
+
+impl Model for Single {
+    ghost use Rattle.std.specs.Prelude.{◌≡◌};
+    ghost use Rattle.plan_facts.specs.declared.record.Rec.{Rec};
+    ghost use Rattle.plan_rules.specs.Rows.{is_placed, row_of};
+    ghost use Rattle.plan_rows.specs.Facts.{record_in};
+
+    ghost Value = { Rec };
+
+    ghost view = { λ single. record_in single.row };
+
+    ghost invariant = { λ single. (single.row ≡ row_of (record_in single.row)) × (single.placed ≡ is_placed (record_in single.row)) };
+}
+
+impl Single {
+    ghost use Rattle.std.specs.Prelude.{◌≡◌, IfOk};
+    ghost use Rattle.plan_rules.specs.declared.row.Part.TheVariants.{Fact};
+    ghost use Rattle.plan_rules.specs.Rows.{row_of};
+    ghost use Rattle.plan_rows.specs.Facts.{takes_part};
+
+    /// The record, with its row.
+    pub fn of(alloc: Global, rec: Rec) -> Result<Single, Memory>
+        ensures { IfOk result (λ single. single ≡ rec) }
+    {
+        let placed = is_placed(&rec);
+        let mut row = Row::new(alloc);
+        row.push(Part::Fact(rec))?;
+        Ok(Single { row, placed })
+    }
+
+    /// The row of the record alone.
+    pub fn row(&self) -> &Row
+        ensures { result.now ≡ row_of self.now }
+    {
+        &self.row
+    }
+
+    /// The record as a part of a row.
+    pub fn part(&self) -> &Part
+        ensures { result.now ≡ Fact self.now }
+    {
+        &self.row.parts()[0]
+    }
+
+    /// Whether the record takes part: it does where it has no null variable, and else where `nulls` says that null
+    /// variables are let in.
+    pub fn takes_part(&self, nulls: bool) -> bool
+        ensures { result ≡ takes_part nulls self.now }
+    {
+        nulls || self.placed
+    }
+}
+
+/// Whether the record has no null variable.
+fn is_placed(rec: &Rec) -> bool
+    ensures { result ≡ is_placed rec.now }
+{
+    rec.planned.as_slice().iter().all(|value| value.is_some())
+}

@@ -145,3 +145,10 @@ pub few_weights : (rules : List RuleDef) (classes : ℕ) (numbers : Numbers) (sl
 few_weights rules classes numbers slice weights accepted same h =
     h (subst (λ rs. All (λ (rule : RuleDef). rule.weight ≤ 1000000) rs) (sym same)
     (All-weaker (IsSound classes numbers) (λ (rule : RuleDef). rule.weight ≤ 1000000) (λ rule sound. sound.weight) rules (sound_rules classes numbers rules accepted)))
+
+-- what was read over equal rules
+pub no_fault_over : (rules slice : List RuleDef) (weights : Option Data) → slice ≡ rules → weights_fault slice weights ≡ None → weights_fault rules weights ≡ None
+no_fault_over rules slice weights same none = ap (λ rs. weights_fault rs weights) (sym same) ∙ none
+
+pub weights_over : (rules slice : List RuleDef) (weights : Option Data) (read : List ℕ) → slice ≡ rules → read ≡ weights_of slice weights → read ≡ weights_of rules weights
+weights_over rules slice weights read same is = is ∙ ap (λ rs. weights_of rs weights) same

@@ -1,7 +1,7 @@
-ghost use Rattle.std.specs.Prelude.{◌≡◌, ◌≤◌, ◌<◌, All, IfOk, None, length};
+ghost use Rattle.std.specs.Prelude.{◌≡◌, ◌≤◌, ◌<◌, All, IfOk, None, length, map};
 ghost use Rattle.plan_facts.specs.Plan.{records_of, unplaced_of};
 ghost use Rattle.plan_rules.specs.Range.{range_fault_of, sizes_of};
-ghost use Rattle.plan_rules.specs.Totals.{all_matches, score_of};
+ghost use Rattle.plan_rules.specs.Totals.{all_matches, impact_sum, score_of};
 
 use crate::calculator::{Totals, recalc, score};
 use plan_facts::{Memory, Plan};
@@ -23,6 +23,7 @@ pub fn totals_alone<B: Book>(
     requires few { All (λ weight. weight ≤ 1000000) weights.now }
     requires range { range_fault_of (sizes_of plan.now) rules.now.defs weights.now rules.now.caps ≡ None }
     ensures matches { IfOk result (λ totals. totals.matches ≡ all_matches B.meaning (records_of plan.now) rules.now.defs weights.now) }
+    ensures impacts { IfOk result (λ totals. totals.impacts ≡ map impact_sum totals.matches) }
     ensures score { IfOk result (λ totals. totals.score ≡ record { unplaced = unplaced_of plan.now; score = score_of B.meaning (records_of plan.now) rules.now.defs weights.now }) }
 {
     totals_from::<B, Brand>(alloc, rules, plan, weights, Blank::new(1))
@@ -60,6 +61,7 @@ fn totals_from<B: Book, L: Ledger>(
     requires few { All (λ weight. weight ≤ 1000000) weights.now }
     requires range { range_fault_of (sizes_of plan.now) rules.now.defs weights.now rules.now.caps ≡ None }
     ensures matches { IfOk result (λ totals. totals.matches ≡ all_matches B.meaning (records_of plan.now) rules.now.defs weights.now) }
+    ensures impacts { IfOk result (λ totals. totals.impacts ≡ map impact_sum totals.matches) }
     ensures score { IfOk result (λ totals. totals.score ≡ record { unplaced = unplaced_of plan.now; score = score_of B.meaning (records_of plan.now) rules.now.defs weights.now }) }
 {
     let mut steps: Steps<L> = Steps::new(blank);

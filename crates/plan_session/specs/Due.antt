@@ -50,22 +50,26 @@ posed_in meaning domain p =
 abbrev pub no_domain : DomainView
 no_domain = record { name = []; classes = []; rules = []; caps = [] }
 
--- a problem of one of these domains as it is posed
-abbrev pub posed_of : Meaning → List DomainView → ProblemView → Posed
-posed_of meaning domains p = posed_in meaning (slice_index_or domains p.domain no_domain) p
-
 -- a problem that is to be searched step by step, which isn't built yet
 abbrev pub has_steps : ProblemView → Bool
 has_steps p = nat_lt 0 p.settings.steps
 
+-- what is due for a problem of this domain
+abbrev pub answer_due : Meaning → (Posed → List ℕ) → DomainView → ProblemView → List ℕ
+answer_due meaning text domain p = if has_steps p then unbuilt_line else text (posed_in meaning domain p)
+
 -- what is due for a problem, or for its refusal
 abbrev pub due_for : Meaning → List DomainView → (Posed → List ℕ) → Result ProblemView ProblemFault → List ℕ
 due_for meaning domains text (Err fault) = refusal_line fault
-due_for meaning domains text (Ok p) = if has_steps p then unbuilt_line else text (posed_of meaning domains p)
+due_for meaning domains text (Ok p) = answer_due meaning text (slice_index_or domains p.domain no_domain) p
 
 -- what is due for the bytes of a problem
 unfoldable pub due_of_bytes : Meaning → List DomainView → (Posed → List ℕ) → List ℕ → List ℕ
 due_of_bytes meaning domains text bytes = due_for meaning domains text (problem_of domains bytes)
+
+-- the bytes are a problem without steps
+abbrev pub IsAnswered : List DomainView → List ℕ → Type 0
+IsAnswered domains bytes = (p : ProblemView) × (problem_of domains bytes ≡ Ok p) × (has_steps p ≡ false)
 
 -- the problem is refused, or isn't built yet
 abbrev pub IsRefused : List DomainView → List ℕ → Type 0

@@ -1,11 +1,13 @@
 //! Sessions: a command is read, its problem fetched and judged, and the text that is due is written.
 #![tactic(auto)]
 
+mod answer;
+mod outside;
 mod report;
-mod run;
+mod top;
 mod scores;
 mod status;
 mod text;
 
-pub use run::run;
+pub use top::run;
 pub use status::Status;

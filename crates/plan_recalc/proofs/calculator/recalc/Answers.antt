@@ -1,5 +1,5 @@
-use Rattle.std.proofs.Common.{◌≡◌, ◌∙◌, ◌+◌, ◌++◌, ◌<◌, ◌≤◌, ℕ, List, drop, get_or, length, refl, ap, sym, subst, arith}
-use Rattle.std.proofs.lemmas.List.{length-map}
+use Rattle.std.proofs.Common.{◌≡◌, ◌∙◌, ◌+◌, ◌++◌, ◌<◌, ◌≤◌, ℕ, List, [], ◌∷◌, map, drop, get_or, length, refl, ap, sym, subst, arith}
+use Rattle.std.proofs.lemmas.List.{length-map, map-append}
 use Rattle.plan_facts.specs.Plan.{records_of}
 use Rattle.plan_scores.specs.declared.score.Score.{Score}
 use Rattle.plan_scores.specs.Sum.{add_scores, FitsScore}
@@ -36,8 +36,8 @@ rule_matches-requires-clause-few g c κs within =
     let read : rule ≡ get_or rules.defs k rule = rw (← c.as_slice-defs.ensures) (c.index-defs-place.is) in
     (λ i. has_too_many_rows (c.in_ok-facts.ensures.sizes i) (read i)) ∙ few_rows_in_range (sizes_of c.args.plan.now) rules.defs c.args.weights.now rules.caps c.requires.range k rule there
 
-pub impact_sum-requires : goal.impact_sum-requires
-impact_sum-requires g c =
+pub impact_sum-impact-requires : goal.impact_sum-impact-requires
+impact_sum-impact-requires g c =
     let rules = c.args.rules.now in
     let weights = c.args.weights.now in
     let sizes = sizes_of c.args.plan.now in
@@ -68,7 +68,7 @@ add-score-requires g c =
     let read : rule ≡ get_or rules.defs k rule = rw (← c.as_slice-defs.ensures) (c.index-defs-place.is) in
     let few : impact_sizes ms ≤ bound_at sizes rules.defs weights rules.caps k rule =
     sizes_within_bound _ sizes (sizes_in c.in_ok-facts.facts) rules.defs weights rules.caps k (get_or weights k 0) rule (impact_sizes ms) there read refl rules.caps_are c.in_ok-facts.ensures.sizes c.in_ok-of_rule.ensures.size in
-    let sum : c.impact_sum.result ≡ impact_sum ms = c.impact_sum.ensures ∙ ap impact_sum c.as_slice.ensures in
+    let sum : c.impact_sum-impact.result ≡ impact_sum ms = c.impact_sum-impact.ensures ∙ ap impact_sum c.as_slice.ensures in
     let room = room_after sizes rules.defs weights rules.caps k rule c.loop-place.score ms there there' there'' c.loop-place.invariant.room few in
     let P : Score → Type 0 = FitsScore in
     subst P (λ i. add_scores c.loop-place.score (sym sum i)) (fits_within room.most (add_scores c.loop-place.score (impact_sum ms)) room.within (omega (arith, room.few)))
@@ -92,7 +92,7 @@ loop-place-preserved g c =
     let facts = records_of c.args.plan.now in
     let weight = get_or weights k 0 in
     let is : ms ≡ matches_of m facts rule weight = c.in_ok-of_rule.ensures.matches ∙ ap (λ (f : Facts). matches_of m f rule weight) c.in_ok-facts.ensures.records in
-    let added : c.add-score.result ≡ add_scores c.loop-place.score (impact_sum ms) = c.add-score.ensures ∙ ap (add_scores c.loop-place.score) (c.impact_sum.ensures ∙ ap impact_sum c.as_slice.ensures) in
+    let added : c.add-score.result ≡ add_scores c.loop-place.score (impact_sum ms) = c.add-score.ensures ∙ ap (add_scores c.loop-place.score) (c.impact_sum-impact.ensures ∙ ap impact_sum c.as_slice.ensures) in
     let room = room_after sizes rules.defs weights rules.caps k rule c.loop-place.score ms there there' there'' c.loop-place.invariant.room few in
     let R : Score → Type 0 = LeavesRoom sizes rules.defs weights rules.caps (k + 1) in
     record {
@@ -101,6 +101,9 @@ loop-place-preserved g c =
       score = score_more m facts rules.defs weights k weight rule ms (score_of m facts rules.defs weights) c.loop-place.score there there' read refl is c.loop-place.invariant.score
           ∙ ap (λ (s : Score). add_scores s (score_of m facts (drop (k + 1) rules.defs) (drop (k + 1) weights))) (sym added);
       room = subst R (sym added) room;
+      impacts = c.in_ok-push-2.ensures.ok ∙ ap (λ (so_far : List Score). so_far ++ c.impact_sum-impact.result ∷ []) c.loop-place.invariant.impacts
+          ∙ ap (λ (s : Score). map impact_sum c.loop-place.matches ++ s ∷ []) (c.impact_sum-impact.ensures ∙ ap impact_sum c.as_slice.ensures)
+          ∙ sym (map-append impact_sum c.loop-place.matches (ms ∷ [])) ∙ ap (map impact_sum) (sym c.in_ok-push.ensures.ok);
     }
 
 pub returns-clause-score : goal.returns-clause-score

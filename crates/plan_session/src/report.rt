@@ -14,6 +14,7 @@ use plan_search::Placed;
 use std::alloc::Global;
 
 /// Writes lines under the names of a domain's classes and rules.
+#[derive(Drop)]
 pub struct Report<'a> {
     pub schema: &'a Schema,
     pub rules: &'a [RuleDef],

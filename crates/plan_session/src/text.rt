@@ -14,7 +14,7 @@ use plan_facts::{Memory, Plan, Text};
 use plan_json::{Domain, Problem};
 use plan_recalc::{Totals, totals_alone};
 use plan_reports::Line;
-use plan_rules::{Book, Kept};
+use plan_rules::{Book, Kept, Rules};
 use plan_scores::PlanScore;
 use std::alloc::Global;
 
@@ -59,7 +59,7 @@ pub fn solve_text<B: Book>(
     domain: &Domain<B>,
     problem: Problem,
 ) -> Result<Vec<u8>, Memory>
-    requires keeps { ⟦<Domain<B> as Kept>⟧.keeps domain.now }
+    requires keeps { ⟦<Rules<B> as Kept>⟧.keeps domain.now.rules }
     requires weights { length problem.weights ≡ length domain.now.rules.defs }
     requires few { All (λ weight. weight ≤ 1000000) problem.weights }
     requires range { range_fault_of (sizes_of problem.plan) domain.now.rules.defs problem.weights domain.now.rules.caps ≡ None }
@@ -91,7 +91,7 @@ pub fn score_text<B: Book>(
     domain: &Domain<B>,
     problem: Problem,
 ) -> Result<Vec<u8>, Memory>
-    requires keeps { ⟦<Domain<B> as Kept>⟧.keeps domain.now }
+    requires keeps { ⟦<Rules<B> as Kept>⟧.keeps domain.now.rules }
     requires weights { length problem.weights ≡ length domain.now.rules.defs }
     requires few { All (λ weight. weight ≤ 1000000) problem.weights }
     requires range { range_fault_of (sizes_of problem.plan) domain.now.rules.defs problem.weights domain.now.rules.caps ≡ None }

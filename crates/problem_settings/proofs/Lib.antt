@@ -1,3 +1,4 @@
 pub mod Lists
 pub mod Others
 pub mod Ranges
+pub mod Roots

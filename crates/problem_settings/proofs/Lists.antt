@@ -1,5 +1,5 @@
 -- Lists of what a call gives of each member, and what a test finds.
-use Rattle.std.proofs.Common.{◌≡◌, ◌∙◌, ℕ, suc, ◌+◌, ◌<◌, List, [], ◌∷◌, ◌++◌, Bool, true, false, cond, ◌&&◌, map, length, take, drop, get_or, Option, Some, None, find, is_some, is_none, refl, ap, sym, add-one}
+use Rattle.std.proofs.Common.{◌≡◌, ◌∙◌, ℕ, suc, ◌+◌, ◌<◌, List, [], ◌∷◌, ◌++◌, Bool, true, false, cond, ◌&&◌, map, length, take, drop, get_or, Option, Some, None, find, is_some, is_none, refl, ap, sym}
 use Rattle.std.specs.List.{list_all, filter_map, cons_option}
 use Rattle.std.specs.Option.{option_or}
 use Rattle.std.proofs.Math.Seq.{drop-cons}

@@ -1,5 +1,5 @@
 -- Numbers and counts within their ranges.
-use Rattle.std.proofs.Common.{◌≡◌, ◌∙◌, ℕ, ◌+◌, ◌≤◌, ℤ, pos, negsuc, Bool, true, false, ◌&&◌, not, cond, nat_le, List, [], ◌∷◌, ◌++◌, map, length, Option, Some, None, find, is_some, unwrap_or, option_map, option_and_then, All, refl, sym, subst, arith}
+use Rattle.std.proofs.Common.{◌≡◌, ◌∙◌, ℕ, ◌≤◌, ℤ, pos, negsuc, Bool, true, false, ◌&&◌, not, cond, nat_le, List, [], ◌∷◌, map, length, Option, Some, None, find, is_some, unwrap_or, option_and_then, All, refl, sym, subst, arith}
 use Rattle.std.specs.List.{list_all, filter_map, cons_option, AllByRecursion}
 use Rattle.std.specs.Option.{option_map_or, option_or}
 use Rattle.std.proofs.lemmas.List.{length-map}

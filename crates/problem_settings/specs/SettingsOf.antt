@@ -1,5 +1,5 @@
 -- The settings of a problem, by its member `settings`; there may be no such member.
-use Rattle.std.specs.Prelude.{ℕ, Bool, true, false, ◌&&◌, not, nat_le, List, [], ◌∷◌, length, Option, Some, None, codes, find, map, option_map, option_and_then, is_some, unwrap_or, if◌then◌else◌}
+use Rattle.std.specs.Prelude.{ℕ, Bool, false, ◌&&◌, not, nat_le, List, length, Option, Some, None, codes, find, map, option_map, option_and_then, is_some, unwrap_or, if◌then◌else◌}
 use Rattle.std.specs.List.{list_all, filter_map}
 use Rattle.std.specs.Option.{option_map_or, option_or}
 use Rattle.serde_json.specs.Data.{Data}
@@ -7,7 +7,6 @@ use Rattle.serde_json.specs.Find.{get, as_number, as_u64}
 use Rattle.json_values.specs.Values.{number_within, items_of, has_other}
 use Rattle.plan_settings.specs.Settings.{usual_settings, all_settings}
 use Rattle.plan_settings.specs.declared.settings.Settings.{Settings}
-use Rattle.plan_settings.specs.declared.setting.Selector.{Selector}
 use Rattle.plan_settings.specs.declared.setting.Setting.{Setting}
 use Rattle.plan_settings.specs.declared.setting.Setting.TheVariants.{Seed, Steps, SelectLimit, AcceptedLimit, PickEarly, Acceptor, LateSize, TabuSize, StepCountSize, Selectors}
 use Rattle.problem_faults.specs.Words.{setting_name}

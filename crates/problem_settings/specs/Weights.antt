@@ -1,5 +1,5 @@
 -- The weights of a problem's rules, by its member `weights`; there may be no such member.
-use Rattle.std.specs.Prelude.{ℕ, Bool, true, false, List, ◌++◌, Option, Some, None, codes, find, map, option_map, option_and_then, is_none, if◌then◌else◌}
+use Rattle.std.specs.Prelude.{ℕ, false, List, ◌++◌, Option, Some, None, codes, find, map, option_map, option_and_then, is_none, if◌then◌else◌}
 use Rattle.std.specs.List.{filter_map}
 use Rattle.std.specs.Option.{option_map_or, option_or}
 use Rattle.serde_json.specs.Data.{Data}

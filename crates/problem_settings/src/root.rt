@@ -1,4 +1,4 @@
-ghost use Rattle.std.specs.Prelude.{◌≡◌, None, IfErr, OnOk, codes, option_map};
+ghost use Rattle.std.specs.Prelude.{◌≡◌, None, true, IfErr, OnOk, codes, option_map};
 ghost use Rattle.serde_json.specs.View.{view};
 ghost use Rattle.json_values.specs.Values.{is_object, is_text, has_other};
 ghost use Rattle.problem_faults.specs.Refusals.{IsRefusal};
@@ -14,6 +14,8 @@ use std::alloc::Global;
 /// any other member. The first of these counts.
 pub fn check_root(alloc: Global, root: &Value) -> Result<(), ProblemFault>
     ensures ok { OnOk result (root_fault (view root.now) ≡ None) }
+    ensures domain { OnOk result (must_be is_text (codes "domain") (view root.now) ≡ true) }
+    ensures facts { OnOk result (must_be is_object (codes "facts") (view root.now) ≡ true) }
     ensures err { IfErr result (IsRefusal (root_fault (view root.now))) }
 {
     match root_flaw(root) {

@@ -1,4 +1,4 @@
-use Rattle.std.proofs.Common.{◌≡◌, ◌∙◌, option_map, sym, subst}
+use Rattle.std.proofs.Common.{◌∙◌, option_map, sym, subst}
 use Rattle.serde_json.specs.View.{view}
 use Rattle.plan_settings.specs.Settings.{IsInRange}
 use Rattle.problem_settings.proofs.Ranges.{in_range}

@@ -1,4 +1,4 @@
-use Rattle.std.proofs.Common.{◌≡◌, ◌∙◌, ℕ, ◌≤◌, List, All, length, option_map, sym, ap, subst}
+use Rattle.std.proofs.Common.{◌∙◌, ℕ, ◌≤◌, List, All, length, option_map, sym, ap, subst}
 use Rattle.serde_json.specs.View.{view}
 use Rattle.problem_settings.specs.Weights.{weight_of}
 use Rattle.problem_settings.proofs.Lists.{length-filter_map, list_all-given}

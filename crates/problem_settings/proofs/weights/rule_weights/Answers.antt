@@ -1,4 +1,4 @@
-use Rattle.std.proofs.Common.{◌≡◌, ◌∙◌, ◌∷◌, [], ◌++◌, Option, Some, None, is_none, option_map, sym, ap, subst}
+use Rattle.std.proofs.Common.{◌∙◌, ◌∷◌, [], ◌++◌, Option, is_none, option_map, sym, ap, subst}
 use Rattle.serde_json.specs.View.{view}
 use Rattle.plan_rules.specs.declared.rule.RuleDef.{RuleDef}
 use Rattle.problem_faults.specs.Refusals.{IsRefusal}

@@ -1,0 +1,4 @@
+pub mod Moves
+pub mod Numbers
+pub mod Read
+pub mod Tables

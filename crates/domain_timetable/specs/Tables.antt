@@ -1,0 +1,71 @@
+-- The timetable's classes and rules.
+use Rattle.std.specs.Prelude.{codes, List, [], ◌∷◌, Some, None, false}
+use Rattle.plan_facts.specs.declared.record.ClassDef.{ClassDef}
+use Rattle.plan_scores.specs.declared.level.Level.TheVariants.{Hard, Medium, Soft}
+use Rattle.plan_rules.specs.declared.rule.Joiner.TheVariants.{Equal, Filtering}
+use Rattle.plan_rules.specs.declared.rule.Collect.TheVariants.{Count}
+use Rattle.plan_rules.specs.declared.rule.Head.TheVariants.{ForEach, Pairs}
+use Rattle.plan_rules.specs.declared.rule.Node.TheVariants.{Filter, Join, IfExists, GroupBy}
+use Rattle.plan_rules.specs.declared.rule.RuleDef.{RuleDef}
+use Rattle.domain_words.specs.Tables.{class, number_field, name_field, variable, penalty, reward}
+use Rattle.domain_timetable.specs.Names.{timeslot, room, lesson, block, by_slot, by_room, by_teacher, by_group, by_day, by_subject, by_away_teacher, by_away_day, room_is_too_small, rooms_differ, follows_soon, day_is_too_full, by_missing_seats, by_lessons_too_many}
+
+-- an hour at which a lesson may be
+abbrev pub timeslot_class : ClassDef
+timeslot_class = class (codes "timeslot") (number_field (codes "day") ∷ number_field (codes "start") ∷ number_field (codes "end") ∷ []) []
+
+-- a room that a lesson may be in
+abbrev pub room_class : ClassDef
+room_class = class (codes "room") (number_field (codes "capacity") ∷ []) []
+
+-- a lesson, whose slot and room are planned
+abbrev pub lesson_class : ClassDef
+lesson_class = class (codes "lesson") (name_field (codes "subject") ∷ name_field (codes "teacher") ∷ name_field (codes "group") ∷ number_field (codes "size") ∷ []) (variable (codes "slot") timeslot ∷ variable (codes "room") room ∷ [])
+
+-- a day on which a teacher is away
+abbrev pub block_class : ClassDef
+block_class = class (codes "block") (name_field (codes "teacher") ∷ number_field (codes "day") ∷ []) []
+
+-- the classes
+abbrev pub timetable_classes : List ClassDef
+timetable_classes = timeslot_class ∷ room_class ∷ lesson_class ∷ block_class ∷ []
+
+-- two lessons at one time in one room
+abbrev pub room_conflict : RuleDef
+room_conflict = penalty (codes "room_conflict") Hard None (Pairs lesson (Equal by_slot by_slot ∷ Equal by_room by_room ∷ [])) []
+
+-- two lessons at one time with one teacher
+abbrev pub teacher_conflict : RuleDef
+teacher_conflict = penalty (codes "teacher_conflict") Hard None (Pairs lesson (Equal by_slot by_slot ∷ Equal by_teacher by_teacher ∷ [])) []
+
+-- two lessons at one time for one group
+abbrev pub group_conflict : RuleDef
+group_conflict = penalty (codes "group_conflict") Hard None (Pairs lesson (Equal by_slot by_slot ∷ Equal by_group by_group ∷ [])) []
+
+-- a lesson for more than its room holds, once for each seat that is missing
+abbrev pub room_size : RuleDef
+room_size = penalty (codes "room_size") Hard (Some by_missing_seats) (ForEach lesson) (Filter room_is_too_small ∷ [])
+
+-- a lesson on a day on which its teacher is away
+abbrev pub teacher_away : RuleDef
+teacher_away = penalty (codes "teacher_away") Hard None (ForEach lesson) (IfExists block false (Equal by_teacher by_away_teacher ∷ Equal by_day by_away_day ∷ []) ∷ [])
+
+-- a group's day with more than six lessons, once for each lesson above six
+abbrev pub group_load : RuleDef
+group_load = penalty (codes "group_load") Medium (Some by_lessons_too_many) (ForEach lesson) (GroupBy (by_group ∷ by_day ∷ []) Count ∷ Filter day_is_too_full ∷ [])
+
+-- two lessons of one teacher in different rooms
+abbrev pub teacher_room : RuleDef
+teacher_room = penalty (codes "teacher_room") Soft None (Pairs lesson (Equal by_teacher by_teacher ∷ [])) (Filter rooms_differ ∷ [])
+
+-- a lesson and one of the same teacher that follows it soon on its day
+abbrev pub teacher_chain : RuleDef
+teacher_chain = reward (codes "teacher_chain") Soft (ForEach lesson) (Join lesson false (Equal by_teacher by_teacher ∷ Equal by_day by_day ∷ Filtering follows_soon ∷ []) ∷ [])
+
+-- a lesson and one of the same group and subject that follows it soon on its day
+abbrev pub subject_repeat : RuleDef
+subject_repeat = penalty (codes "subject_repeat") Soft None (ForEach lesson) (Join lesson false (Equal by_group by_group ∷ Equal by_subject by_subject ∷ Equal by_day by_day ∷ Filtering follows_soon ∷ []) ∷ [])
+
+-- the rules
+abbrev pub timetable_rules : List RuleDef
+timetable_rules = room_conflict ∷ teacher_conflict ∷ group_conflict ∷ room_size ∷ teacher_away ∷ group_load ∷ teacher_room ∷ teacher_chain ∷ subject_repeat ∷ []

@@ -1,4 +1,5 @@
 pub mod Closures
+pub mod Moves
 pub mod Names
 pub mod Shifts
 pub mod Tables

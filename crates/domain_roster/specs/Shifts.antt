@@ -1,5 +1,5 @@
 -- What the roster's closures read off a row, from its place: none where the row has no such record there.
-use Rattle.std.specs.Prelude.{ℕ, ℤ, pos, ◌+ℤ◌, List, Option, Some, option_map}
+use Rattle.std.specs.Prelude.{ℕ, ℤ, pos, ◌+ℤ◌, List, Option, option_map}
 use Rattle.std.specs.Option.{option_or}
 use Rattle.std.specs.Int.{int_min}
 use Rattle.plan_rules.specs.declared.row.Part.{Part}

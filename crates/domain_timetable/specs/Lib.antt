@@ -1,4 +1,5 @@
 pub mod Closures
 pub mod Lessons
+pub mod Moves
 pub mod Names
 pub mod Tables

@@ -1,5 +1,5 @@
 -- The numbers of the timetable's classes, fields, variables and closures.
-use Rattle.std.specs.Prelude.{ℕ, List, [], ◌∷◌}
+use Rattle.std.specs.Prelude.{ℕ, [], ◌∷◌}
 use Rattle.plan_rules.specs.declared.places.Numbers.{Numbers}
 
 -- the classes

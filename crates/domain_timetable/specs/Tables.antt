@@ -1,5 +1,5 @@
 -- The timetable's classes and rules.
-use Rattle.std.specs.Prelude.{ℕ, codes, List, [], ◌∷◌, Option, Some, None, false}
+use Rattle.std.specs.Prelude.{codes, List, [], ◌∷◌, Some, None, false}
 use Rattle.plan_facts.specs.declared.record.ClassDef.{ClassDef}
 use Rattle.plan_scores.specs.declared.level.Level.TheVariants.{Hard, Medium, Soft}
 use Rattle.plan_rules.specs.declared.rule.Joiner.TheVariants.{Equal, Filtering}

@@ -4,10 +4,14 @@
 mod classes;
 mod closures;
 mod lessons;
+mod maker;
 mod names;
 mod rules;
+#[cfg(test)]
+mod tests;
 
 pub use classes::schema;
 pub use closures::{key_value, test_value, weight_value};
+pub use maker::Maker;
 pub use names::{CAP, KEYS, TESTS, WEIGHERS};
 pub use rules::defs;

@@ -1,3 +1,4 @@
+pub mod Moves
 pub mod Numbers
 pub mod Read
 pub mod Tables

@@ -1,5 +1,5 @@
 -- The parts that the tables of a domain are made of.
-use Rattle.std.specs.Prelude.{ℕ, Bool, true, false, List, Option, None}
+use Rattle.std.specs.Prelude.{ℕ, true, false, List, Option, None}
 use Rattle.plan_facts.specs.declared.record.Kind.{Kind}
 use Rattle.plan_facts.specs.declared.record.Kind.TheVariants.{Number, Name}
 use Rattle.plan_facts.specs.declared.record.FieldDef.{FieldDef}

@@ -3,9 +3,10 @@
 
 mod book;
 mod making;
+#[cfg(test)]
 mod tests;
 
 pub use book::{Shipped, shipped_key, shipped_test, shipped_weight};
-pub use making::shipped_rules_of;
-pub use plan_facts::{List, Memory};
-pub use plan_rules::{Key, KeyBody, Row, Test, TestBody, Weigh, WeighBody};
+pub use making::{ShippedKey, ShippedTest, ShippedWeigh, shipped_rules_of};
+pub use plan_facts::Memory;
+pub use plan_rules::{KeyBody, Row, TestBody, WeighBody};

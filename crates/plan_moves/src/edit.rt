@@ -117,6 +117,13 @@ impl Edit {
         &self.sets
     }
 
+    /// Takes all variables out.
+    pub fn clear(&mut self)
+        ensures { self.new ≡ [] }
+    {
+        self.sets.clear();
+    }
+
     /// Adds a variable with its value; false, and nothing is added, exactly where that variable is in the edit already.
     pub fn put(&mut self, set: Set) -> Result<bool, Memory>
         ensures answer { IfOk result (λ put. put ≡ not (is_set_in self.old set)) }

@@ -1,0 +1,11 @@
+use Rattle.std.proofs.Common.{◌≡◌, Bool, List, All, map}
+use Rattle.plan_rules.specs.declared.row.Part.{Part}
+use Rattle.plan_domains.specs.Meaning.{shipped_test}
+use denote.Ref.{Bor}
+use Rattle.plan_domains.proofs.making.tests_of.Given as goal
+
+-- the closures so far, which keep their word
+abbrev pub invariant-loop-shipped : goal.invariant-loop-shipped
+invariant-loop-shipped g l =
+    (map (λ one. one.number) l.tests ≡ map (λ one. one.number) l.yielded)
+    × All (λ one. (r : Bor (List Part)) (answer : Bool) → (goal.Fn-dyn g).post (one.body.vtable, one.body.value) (r, tt) answer → answer ≡ shipped_test one.number r.now) l.tests

@@ -1,5 +1,5 @@
 -- What the program's words are answered with.
-use Rattle.std.specs.Prelude.{◌≡◌, ◌⊎◌, ℕ, nat_lt, Bool, true, List, [], Option, Some, None, option_and_then, Result, Ok, Err, codes, slice_index_or, if◌then◌else◌}
+use Rattle.std.specs.Prelude.{◌≡◌, ◌⊎◌, ℕ, nat_lt, Bool, true, false, List, [], Option, Some, None, option_and_then, Result, Ok, Err, codes, slice_index_or, if◌then◌else◌}
 use Rattle.plan_words.specs.Command.{command}
 use Rattle.plan_words.specs.declared.command.Command.{Command}
 use Rattle.plan_words.specs.declared.command.Command.TheVariants.{Solve, Replay, Score, Explain, Gen, Tour}

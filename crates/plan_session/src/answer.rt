@@ -8,11 +8,11 @@ ghost use Rattle.plan_session.specs.Wanted.{text_wanted};
 
 use crate::outside::say;
 use crate::status::Status;
-use crate::text::{score_text, solve_text};
 use plan_facts::Memory;
 use plan_json::{Domain, Problem, read_problem};
 use plan_ports::Sink;
 use plan_rules::{Book, Kept, Rules};
+use plan_texts::{score_text, solve_text};
 use problem_faults::{ProblemFault, write_refusal};
 use std::alloc::Global;
 

@@ -3,11 +3,8 @@
 
 mod answer;
 mod outside;
-mod report;
 mod top;
-mod scores;
 mod status;
-mod text;
 
 pub use top::run;
 pub use status::Status;

@@ -1,15 +1,12 @@
 ghost use Rattle.std.specs.Prelude.{◌≡◌, ◌≤◌, ◌++◌, ◌∷◌, All, IfOk, None, OnOk, flat_map, length, map};
-ghost use Rattle.plan_facts.specs.Plan.{IsPlan};
 ghost use Rattle.plan_reports.specs.Lines.{lines_text};
 ghost use Rattle.plan_reports.specs.declared.line.Line.TheVariants as line;
 ghost use Rattle.plan_rules.specs.Range.{range_fault_of, sizes_of};
 ghost use Rattle.plan_rules.specs.Totals.{impact_sum};
-ghost use Rattle.plan_search.specs.Run.{Leg};
-ghost use Rattle.plan_search.specs.RunLines.{best_lines, leg_lines, score_lines, score_text, solve_text};
+ghost use Rattle.plan_search.specs.RunLines.{best_lines, place_line, score_text, solve_text, stuck_lines};
 
 use crate::report::Report;
-use crate::scores::Recalculation;
-use construction::{Placing, place};
+use construction::{Judge, Placing, place};
 use plan_facts::{Memory, Plan, Text};
 use plan_json::{Domain, Problem};
 use plan_recalc::{Totals, totals_alone};
@@ -65,13 +62,19 @@ pub fn solve_text<B: Book>(
     requires range { range_fault_of (sizes_of problem.plan) domain.now.rules.defs problem.weights domain.now.rules.caps ≡ None }
     ensures { IfOk result (λ text. text.items ≡ solve_text (record { name = domain.now.name; classes = domain.now.schema; rules = domain.now.rules.defs; meaning = B.meaning; weights = problem.weights; plan = problem.plan })) }
 {
-    let weights = problem.weights.as_slice();
-    let mut plan = problem.plan;
-    let scorer = Recalculation {
+    let Problem {
+        domain: _,
+        mut plan,
+        names: _,
+        settings: _,
+        weights,
+    } = problem;
+    let weights = weights.as_slice();
+    let judge = Judge {
         rules: &domain.rules,
         weights,
     };
-    let placing = place(alloc, &scorer, &mut plan)?;
+    let placing = place(alloc, &judge, &mut plan)?;
     let totals = totals_alone(alloc, &domain.rules, &plan, weights)?;
     let report = Report {
         schema: &domain.schema,

@@ -1,5 +1,13 @@
 ghost use Rattle.std.specs.Prelude.{◌≡◌, [], IfOk, pos, true};
 
+use super::*;
+use plan_facts::{ClassDef, List, Memory, Plan, Raw, Schema, Text, VarDef};
+use plan_moves::Touch;
+use plan_rules::{Book, Kept, RuleFault, Rules};
+use plan_scores::Score;
+use std::alloc::Global;
+use std::test::Fail;
+
 /// No closure means anything.
 #[derive(Drop)]
 struct Nothing;

@@ -5,6 +5,7 @@ mod answer;
 mod outside;
 mod top;
 mod status;
+mod stub;
 
 pub use top::run;
 pub use status::Status;

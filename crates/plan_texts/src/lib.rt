@@ -4,4 +4,4 @@
 mod report;
 mod text;
 
-pub use text::score_text;
+pub use text::{score_text, solve_text};

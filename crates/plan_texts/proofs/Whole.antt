@@ -1,0 +1,71 @@
+-- Whole texts, from what was written line by line.
+use Rattle.std.proofs.Common.{◌≡◌, ◌∙◌, ◌≤◌, ℕ, List, [], ◌∷◌, ◌++◌, Option, length, map, zip, refl, sym, ap, arith}
+use Rattle.std.proofs.lemmas.List.{append-nil, length-map}
+use Rattle.std.proofs.lemmas.Slice.Zip.{length-zip}
+use Rattle.plan_scores.specs.declared.plan_score.PlanScore.{PlanScore}
+use Rattle.plan_facts.specs.declared.record.ClassDef.{ClassDef}
+use Rattle.plan_facts.specs.Plan.{PlanView, records_of}
+use Rattle.plan_rules.specs.declared.row.Match.{Match}
+use Rattle.plan_rules.specs.declared.rule.RuleDef.{RuleDef}
+use Rattle.plan_rules.specs.Meaning.{Meaning}
+use Rattle.plan_rules.specs.Rows.{Facts}
+use Rattle.plan_rules.specs.Totals.{all_matches, matches_of}
+use Rattle.plan_moves.specs.declared.edit.Touch.{Touch}
+use Rattle.plan_reports.specs.declared.line.Line.{Line}
+use Rattle.plan_reports.specs.declared.line.Line.TheVariants as line
+use Rattle.plan_reports.specs.Lines.{lines_text}
+use Rattle.plan_search.specs.declared.placed.Placed.{Placed}
+use Rattle.plan_search.specs.Placing.{placed_plan}
+use Rattle.plan_search.specs.Posed.{Posed, plan_score, whole_score}
+use Rattle.plan_search.specs.Run.{legs_of, leg_from}
+use Rattle.plan_search.specs.RunLines.{best_lines, leg_lines, matches_in, place_line, score_lines, score_text, solve_text, stuck_lines, sums_lines}
+use Rattle.plan_texts.proofs.Grown.{written_more}
+
+-- there are at most as many lists of matches as rules
+pub few_matches : (m : Meaning) (facts : Facts) (rules : List RuleDef) (weights : List ℕ) (most : ℕ) → length rules ≤ most → length (all_matches m facts rules weights) ≤ most
+few_matches m facts rules weights most few =
+    omega (arith, length-map (zip rules weights) (λ (pair : RuleDef × ℕ). matches_of m facts pair.0 pair.1), length-zip rules weights)
+
+-- three groups of lines are written one behind the other
+pub written_three : (classes : List ClassDef) (rules : List RuleDef) (first second third : List Line) (empty one two all : List ℕ) → empty ≡ []
+    → one ≡ empty ++ lines_text classes rules first → two ≡ one ++ lines_text classes rules second → all ≡ two ++ lines_text classes rules third
+    → all ≡ lines_text classes rules ((first ++ second) ++ third)
+written_three classes rules first second third empty one two all none wrote_one wrote_two wrote_three =
+    let begun : one ≡ [] ++ lines_text classes rules first = written_more classes rules [] first first [] empty one refl none wrote_one in
+    let more : two ≡ [] ++ lines_text classes rules (first ++ second) = written_more classes rules first second (first ++ second) [] one two refl begun wrote_two in
+    written_more classes rules (first ++ second) third ((first ++ second) ++ third) [] two all refl more wrote_three
+
+-- the score and each rule are written
+pub score_written : (posed : Posed) (rules : List RuleDef) (score : PlanScore) (matches : List (List Match)) (empty one two all : List ℕ) → empty ≡ []
+    → one ≡ empty ++ lines_text posed.classes rules (line.Total score ∷ []) → two ≡ one ++ lines_text posed.classes rules (sums_lines matches) → all ≡ two ++ lines_text posed.classes rules (line.End ∷ [])
+    → rules ≡ posed.rules → score ≡ whole_score posed.meaning posed.rules posed.weights posed.plan → matches ≡ matches_in posed posed.plan → all ≡ score_text posed
+unfolding score_text plan_score
+score_written posed rules score matches empty one two all none wrote_one wrote_two wrote_three rules_are score_is matches_are =
+    written_three posed.classes rules (line.Total score ∷ []) (sums_lines matches) (line.End ∷ []) empty one two all none wrote_one wrote_two wrote_three
+    ∙ (λ i. lines_text posed.classes (rules_are i) (score_lines (score_is i) (matches_are i)))
+
+-- a leg that was placed
+abbrev placed_lines : List Placed → Option Touch → PlanScore → List Line
+placed_lines placed stuck score = line.Leg 0 ∷ map place_line placed ++ stuck_lines stuck ++ line.Start score ∷ []
+
+-- the run line, the leg and the best plan are written
+pub solve_written : (posed : Posed) (rules : List RuleDef) (name : List ℕ) (placed : List Placed) (stuck : Option Touch) (plan : PlanView) (score : PlanScore) (matches : List (List Match))
+    (empty one two all : List ℕ) → empty ≡ []
+    → one ≡ empty ++ lines_text posed.classes rules (line.Run name ∷ [])
+    → two ≡ one ++ lines_text posed.classes rules (line.Leg 0 ∷ map place_line placed ++ stuck_lines stuck ++ line.Start score ∷ [])
+    → all ≡ two ++ lines_text posed.classes rules (best_lines score plan matches)
+    → rules ≡ posed.rules → name ≡ posed.name
+    → placed ≡ (placed_plan (whole_score posed.meaning posed.rules posed.weights) posed.plan).placed
+    → stuck ≡ (placed_plan (whole_score posed.meaning posed.rules posed.weights) posed.plan).stuck
+    → plan ≡ (placed_plan (whole_score posed.meaning posed.rules posed.weights) posed.plan).plan
+    → score ≡ whole_score posed.meaning posed.rules posed.weights plan
+    → matches ≡ matches_in posed plan
+    → all ≡ solve_text posed
+unfolding solve_text legs_of plan_score
+solve_written posed rules name placed stuck plan score matches empty one two all none wrote_one wrote_two wrote_three rules_are name_is placed_are stuck_is plan_is score_is matches_are =
+    let leg = leg_from posed 0 posed.plan in
+    let score_at : score ≡ whole_score posed.meaning posed.rules posed.weights leg.best = score_is ∙ ap (whole_score posed.meaning posed.rules posed.weights) plan_is in
+    let matches_at : matches ≡ matches_in posed leg.best = matches_are ∙ ap (matches_in posed) plan_is in
+    written_three posed.classes rules (line.Run name ∷ []) (placed_lines placed stuck score) (best_lines score plan matches) empty one two all none wrote_one wrote_two wrote_three
+    ∙ (λ i. lines_text posed.classes (rules_are i) ((line.Run (name_is i) ∷ placed_lines (placed_are i) (stuck_is i) (score_at i)) ++ best_lines (score_at i) (plan_is i) (matches_at i)))
+    ∙ ap (λ zs. lines_text posed.classes posed.rules ((line.Run posed.name ∷ zs) ++ best_lines (plan_score posed leg.best) leg.best (matches_in posed leg.best))) (sym (append-nil (leg_lines leg)))

@@ -15,16 +15,16 @@ use Rattle.plan_reports.specs.declared.line.Line.{Line}
 use Rattle.plan_reports.specs.declared.line.Line.TheVariants as line
 use Rattle.plan_reports.specs.Lines.{lines_text}
 use Rattle.plan_search.specs.declared.placed.Placed.{Placed}
-use Rattle.plan_search.specs.Placing.{placed_plan}
+use Rattle.plan_search.specs.Placing.{Placing, placed_plan}
 use Rattle.plan_search.specs.Posed.{Posed, plan_score, whole_score}
 use Rattle.plan_search.specs.Run.{legs_of, leg_from}
 use Rattle.plan_search.specs.RunLines.{best_lines, leg_lines, matches_in, place_line, score_lines, score_text, solve_text, stuck_lines, sums_lines}
 use Rattle.plan_texts.proofs.Grown.{written_more}
 
 -- there are at most as many lists of matches as rules
-pub few_matches : (m : Meaning) (facts : Facts) (rules : List RuleDef) (weights : List ℕ) (most : ℕ) → length rules ≤ most → length (all_matches m facts rules weights) ≤ most
-few_matches m facts rules weights most few =
-    omega (arith, length-map (zip rules weights) (λ (pair : RuleDef × ℕ). matches_of m facts pair.0 pair.1), length-zip rules weights)
+pub few_matches : (m : Meaning) (facts : Facts) (rules : List RuleDef) (weights : List ℕ) (matches : List (List Match)) (most : ℕ) → matches ≡ all_matches m facts rules weights → length rules ≤ most → length matches ≤ most
+few_matches m facts rules weights matches most are few =
+    omega (arith, ap length are, length-map (zip rules weights) (λ (pair : RuleDef × ℕ). matches_of m facts pair.0 pair.1), length-zip rules weights)
 
 -- three groups of lines are written one behind the other
 pub written_three : (classes : List ClassDef) (rules : List RuleDef) (first second third : List Line) (empty one two all : List ℕ) → empty ≡ []
@@ -48,24 +48,28 @@ score_written posed rules score matches empty one two all none wrote_one wrote_t
 abbrev placed_lines : List Placed → Option Touch → PlanScore → List Line
 placed_lines placed stuck score = line.Leg 0 ∷ map place_line placed ++ stuck_lines stuck ++ line.Start score ∷ []
 
--- the run line, the leg and the best plan are written
-pub solve_written : (posed : Posed) (rules : List RuleDef) (name : List ℕ) (placed : List Placed) (stuck : Option Touch) (plan : PlanView) (score : PlanScore) (matches : List (List Match))
+-- the run line, the leg and the best plan are written, as judged under these weights
+pub solve_written : (posed : Posed) (rules : List RuleDef) (weights name : List ℕ) (placed : List Placed) (stuck : Option Touch) (plan : PlanView) (score : PlanScore) (matches : List (List Match))
     (empty one two all : List ℕ) → empty ≡ []
     → one ≡ empty ++ lines_text posed.classes rules (line.Run name ∷ [])
     → two ≡ one ++ lines_text posed.classes rules (line.Leg 0 ∷ map place_line placed ++ stuck_lines stuck ++ line.Start score ∷ [])
     → all ≡ two ++ lines_text posed.classes rules (best_lines score plan matches)
-    → rules ≡ posed.rules → name ≡ posed.name
-    → placed ≡ (placed_plan (whole_score posed.meaning posed.rules posed.weights) posed.plan).placed
-    → stuck ≡ (placed_plan (whole_score posed.meaning posed.rules posed.weights) posed.plan).stuck
-    → plan ≡ (placed_plan (whole_score posed.meaning posed.rules posed.weights) posed.plan).plan
-    → score ≡ whole_score posed.meaning posed.rules posed.weights plan
-    → matches ≡ matches_in posed plan
+    → rules ≡ posed.rules → weights ≡ posed.weights → name ≡ posed.name
+    → placed ≡ (placed_plan (whole_score posed.meaning posed.rules weights) posed.plan).placed
+    → stuck ≡ (placed_plan (whole_score posed.meaning posed.rules weights) posed.plan).stuck
+    → plan ≡ (placed_plan (whole_score posed.meaning posed.rules weights) posed.plan).plan
+    → score ≡ whole_score posed.meaning posed.rules weights plan
+    → matches ≡ all_matches posed.meaning (records_of plan) posed.rules weights
     → all ≡ solve_text posed
 unfolding solve_text legs_of plan_score
-solve_written posed rules name placed stuck plan score matches empty one two all none wrote_one wrote_two wrote_three rules_are name_is placed_are stuck_is plan_is score_is matches_are =
+solve_written posed rules weights name placed stuck plan score matches empty one two all none wrote_one wrote_two wrote_three rules_are weights_are name_is placed_are stuck_is plan_is score_is matches_are =
     let leg = leg_from posed 0 posed.plan in
-    let score_at : score ≡ whole_score posed.meaning posed.rules posed.weights leg.best = score_is ∙ ap (whole_score posed.meaning posed.rules posed.weights) plan_is in
-    let matches_at : matches ≡ matches_in posed leg.best = matches_are ∙ ap (matches_in posed) plan_is in
+    let course : List ℕ → Placing = λ ws. placed_plan (whole_score posed.meaning posed.rules ws) posed.plan in
+    let placed_at : placed ≡ leg.placing.placed = placed_are ∙ (λ i. (course (weights_are i)).placed) in
+    let stuck_at : stuck ≡ leg.placing.stuck = stuck_is ∙ (λ i. (course (weights_are i)).stuck) in
+    let plan_at : plan ≡ leg.best = plan_is ∙ (λ i. (course (weights_are i)).plan) in
+    let score_at : score ≡ plan_score posed leg.best = score_is ∙ (λ i. whole_score posed.meaning posed.rules (weights_are i) (plan_at i)) in
+    let matches_at : matches ≡ matches_in posed leg.best = matches_are ∙ (λ i. all_matches posed.meaning (records_of (plan_at i)) posed.rules (weights_are i)) in
     written_three posed.classes rules (line.Run name ∷ []) (placed_lines placed stuck score) (best_lines score plan matches) empty one two all none wrote_one wrote_two wrote_three
-    ∙ (λ i. lines_text posed.classes (rules_are i) ((line.Run (name_is i) ∷ placed_lines (placed_are i) (stuck_is i) (score_at i)) ++ best_lines (score_at i) (plan_is i) (matches_at i)))
+    ∙ (λ i. lines_text posed.classes (rules_are i) ((line.Run (name_is i) ∷ placed_lines (placed_at i) (stuck_at i) (score_at i)) ++ best_lines (score_at i) (plan_at i) (matches_at i)))
     ∙ ap (λ zs. lines_text posed.classes posed.rules ((line.Run posed.name ∷ zs) ++ best_lines (plan_score posed leg.best) leg.best (matches_in posed leg.best))) (sym (append-nil (leg_lines leg)))

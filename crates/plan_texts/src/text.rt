@@ -1,4 +1,4 @@
-ghost use Rattle.std.specs.Prelude.{◌≡◌, ◌≤◌, ◌++◌, ◌∷◌, All, IfOk, None, OnOk, flat_map, length, map};
+ghost use Rattle.std.specs.Prelude.{◌≡◌, ◌≤◌, ◌++◌, ◌∷◌, [], All, IfOk, None, OnOk, length, map};
 ghost use Rattle.plan_reports.specs.Lines.{lines_text};
 ghost use Rattle.plan_reports.specs.declared.line.Line.TheVariants as line;
 ghost use Rattle.plan_rules.specs.Range.{range_fault_of, sizes_of};

@@ -8,9 +8,7 @@ use Rattle.plan_texts.proofs.text.score_text.Goals as goal
 
 pub sums-requires-clause-few : goal.sums-requires-clause-few
 sums-requires-clause-few g c =
-    let defs = c.args.domain.now.rules.defs in
-    subst (λ ms. length ms ≤ 32) (sym c.in_ok-totals.ensures.matches)
-    (few_matches g.B.Book.meaning (records_of c.args.problem.plan) defs c.as_slice.result.now 32 (few_rules _ _ _ c.args.domain.now.rules.accepted))
+    few_matches g.B.Book.meaning (records_of c.args.problem.plan) c.args.domain.now.rules.defs c.as_slice.result.now _ 32 c.in_ok-totals.ensures.matches (few_rules _ _ _ c.args.domain.now.rules.accepted)
 
 pub returns : goal.returns
 returns g c =

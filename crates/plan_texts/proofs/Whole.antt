@@ -35,14 +35,21 @@ written_three classes rules first second third empty one two all none wrote_one 
     let more : two ≡ [] ++ lines_text classes rules (first ++ second) = written_more classes rules first second (first ++ second) [] one two refl begun wrote_two in
     written_more classes rules (first ++ second) third ((first ++ second) ++ third) [] two all refl more wrote_three
 
--- the score and each rule are written
-pub score_written : (posed : Posed) (rules : List RuleDef) (score : PlanScore) (matches : List (List Match)) (empty one two all : List ℕ) → empty ≡ []
-    → one ≡ empty ++ lines_text posed.classes rules (line.Total score ∷ []) → two ≡ one ++ lines_text posed.classes rules (sums_lines matches) → all ≡ two ++ lines_text posed.classes rules (line.End ∷ [])
-    → rules ≡ posed.rules → score ≡ whole_score posed.meaning posed.rules posed.weights posed.plan → matches ≡ matches_in posed posed.plan → all ≡ score_text posed
+-- the score and each rule are written, as judged under these weights
+pub score_written : (posed : Posed) (rules : List RuleDef) (weights : List ℕ) (score : PlanScore) (matches : List (List Match)) (empty one two all : List ℕ) → empty ≡ []
+    → one ≡ empty ++ lines_text posed.classes rules (line.Total score ∷ [])
+    → two ≡ one ++ lines_text posed.classes rules (sums_lines matches)
+    → all ≡ two ++ lines_text posed.classes rules (line.End ∷ [])
+    → rules ≡ posed.rules → weights ≡ posed.weights
+    → score ≡ whole_score posed.meaning posed.rules weights posed.plan
+    → matches ≡ all_matches posed.meaning (records_of posed.plan) posed.rules weights
+    → all ≡ score_text posed
 unfolding score_text plan_score
-score_written posed rules score matches empty one two all none wrote_one wrote_two wrote_three rules_are score_is matches_are =
+score_written posed rules weights score matches empty one two all none wrote_one wrote_two wrote_three rules_are weights_are score_is matches_are =
+    let score_at : score ≡ plan_score posed posed.plan = score_is ∙ (λ i. whole_score posed.meaning posed.rules (weights_are i) posed.plan) in
+    let matches_at : matches ≡ matches_in posed posed.plan = matches_are ∙ ap (all_matches posed.meaning (records_of posed.plan) posed.rules) weights_are in
     written_three posed.classes rules (line.Total score ∷ []) (sums_lines matches) (line.End ∷ []) empty one two all none wrote_one wrote_two wrote_three
-    ∙ (λ i. lines_text posed.classes (rules_are i) (score_lines (score_is i) (matches_are i)))
+    ∙ (λ i. lines_text posed.classes (rules_are i) (score_lines (score_at i) (matches_at i)))
 
 -- a leg that was placed
 abbrev placed_lines : List Placed → Option Touch → PlanScore → List Line

@@ -100,7 +100,12 @@ pub fn score_text<B: Book>(
     requires range { range_fault_of (sizes_of problem.plan) domain.now.rules.defs problem.weights domain.now.rules.caps ≡ None }
     ensures { IfOk result (λ text. text.items ≡ score_text (record { name = domain.now.name; classes = domain.now.schema; rules = domain.now.rules.defs; meaning = B.meaning; weights = problem.weights; plan = problem.plan })) }
 {
-    let totals = totals_alone(alloc, &domain.rules, &problem.plan, problem.weights.as_slice())?;
+    let totals = totals_alone(
+        alloc,
+        &domain.rules,
+        &problem.plan,
+        problem.weights.as_slice(),
+    )?;
     let report = Report {
         schema: &domain.schema,
         rules: domain.rules.defs.as_slice(),

@@ -1,8 +1,5 @@
-use Rattle.std.proofs.Common.{◌≡◌, ◌∙◌, ◌≤◌, length, map, subst, sym, ap}
-use Rattle.plan_facts.specs.Plan.{records_of, unplaced_of}
+use Rattle.plan_facts.specs.Plan.{records_of}
 use Rattle.plan_rules.proofs.Accepted.{few_rules}
-use Rattle.plan_rules.specs.Totals.{all_matches}
-use Rattle.plan_search.specs.Posed.{whole_score}
 use Rattle.plan_texts.proofs.Whole.{few_matches, score_written}
 use Rattle.plan_texts.proofs.text.score_text.Goals as goal
 
@@ -12,9 +9,6 @@ sums-requires-clause-few g c =
 
 pub returns : goal.returns
 returns g c =
-    let rules = c.args.domain.now.rules.defs in
-    let plan = c.args.problem.plan in
-    score_written _ c.as_slice-2.result.now c.in_ok-totals.totals.score c.in_ok-totals.totals.matches _ _ _ _ c.new-out.ensures.items
-    c.in_ok-line.ensures c.in_ok-sums.ensures c.in_ok-line-2.ensures c.as_slice-2.ensures
-    (c.in_ok-totals.ensures.score ∙ ap (λ ws. whole_score g.B.Book.meaning rules ws plan) c.as_slice.ensures)
-    (c.in_ok-totals.ensures.matches ∙ ap (all_matches g.B.Book.meaning (records_of plan) rules) c.as_slice.ensures)
+    score_written _ c.as_slice-2.result.now c.as_slice.result.now c.in_ok-totals.totals.score c.in_ok-totals.totals.matches
+    _ _ _ _ c.new-out.ensures.items c.in_ok-line.ensures c.in_ok-sums.ensures c.in_ok-line-2.ensures
+    c.as_slice-2.ensures c.as_slice.ensures c.in_ok-totals.ensures.score c.in_ok-totals.ensures.matches

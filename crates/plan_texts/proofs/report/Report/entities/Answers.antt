@@ -19,7 +19,7 @@ loop-class-preserved c =
       | else-not-is_empty w ↦
           ap (λ (v : _). v.items) w.out-is ∙ c.loop-class.invariant
           ∙ ap (λ zs. c.args.out.now.items ++ lines_text c.args.self.now.schema.now c.args.self.now.rules.now zs)
-            (sym (class_none plan k _ within c.ranges-in-loop-class.ensures.ranges (sym c.is_empty.ensures ∙ w.if-not-is_empty.false)))
+          (sym (class_none plan k _ within c.ranges-in-loop-class.ensures.ranges (sym c.is_empty.ensures ∙ w.if-not-is_empty.false)))
     ]
 
 pub returns : goal.returns

@@ -61,7 +61,13 @@ impl<'a> Report<'a> {
     }
 
     /// Appends a line for each entity of a class.
-    fn class(&self, alloc: Global, class: u8, facts: &[Raw], out: &mut Vec<u8>) -> Result<(), Memory>
+    fn class(
+        &self,
+        alloc: Global,
+        class: u8,
+        facts: &[Raw],
+        out: &mut Vec<u8>,
+    ) -> Result<(), Memory>
         ensures { OnOk result (out.new.items ≡ out.old.items ++ lines_text self.now.schema.now self.now.rules.now (map entity_line (map (entity_of class) facts.now))) }
     {
         for raw in facts {
@@ -88,7 +94,13 @@ impl<'a> Report<'a> {
     }
 
     /// Appends the line of a rule: how many matches it has, and the sum of their impacts.
-    fn rule(&self, rule: u8, matches: &[Match], impact: Score, out: &mut Vec<u8>) -> Result<(), Memory>
+    fn rule(
+        &self,
+        rule: u8,
+        matches: &[Match],
+        impact: Score,
+        out: &mut Vec<u8>,
+    ) -> Result<(), Memory>
         requires { impact ≡ impact_sum matches.now }
         ensures { OnOk result (out.new.items ≡ out.old.items ++ lines_text self.now.schema.now self.now.rules.now (rule_line rule matches.now ∷ [])) }
     {

@@ -1,4 +1,4 @@
-ghost use Rattle.std.specs.Prelude.{◌≡◌, ◌≤◌, ◌++◌, ◌∷◌, All, IfOk, None, OnOk, flat_map, length, map};
+ghost use Rattle.std.specs.Prelude.{◌≡◌, ◌≤◌, ◌++◌, ◌∷◌, [], All, IfOk, None, OnOk, length, map};
 ghost use Rattle.plan_reports.specs.Lines.{lines_text};
 ghost use Rattle.plan_reports.specs.declared.line.Line.TheVariants as line;
 ghost use Rattle.plan_rules.specs.Range.{range_fault_of, sizes_of};
@@ -100,7 +100,12 @@ pub fn score_text<B: Book>(
     requires range { range_fault_of (sizes_of problem.plan) domain.now.rules.defs problem.weights domain.now.rules.caps ≡ None }
     ensures { IfOk result (λ text. text.items ≡ score_text (record { name = domain.now.name; classes = domain.now.schema; rules = domain.now.rules.defs; meaning = B.meaning; weights = problem.weights; plan = problem.plan })) }
 {
-    let totals = totals_alone(alloc, &domain.rules, &problem.plan, problem.weights.as_slice())?;
+    let totals = totals_alone(
+        alloc,
+        &domain.rules,
+        &problem.plan,
+        problem.weights.as_slice(),
+    )?;
     let report = Report {
         schema: &domain.schema,
         rules: domain.rules.defs.as_slice(),

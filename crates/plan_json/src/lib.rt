@@ -9,3 +9,6 @@ mod read;
 pub use domain::Domain;
 pub use problem::Problem;
 pub use read::read_problem;
+
+#[cfg(test)]
+mod tests;

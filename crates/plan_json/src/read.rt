@@ -45,7 +45,13 @@ fn read_content<B: Book>(
     let defs = domain.rules.defs.as_slice();
     let weights = read_weights(alloc, defs, member(root, b"weights"))?;
     let records = read_records(alloc, &domain.schema, facts_of(root))?;
-    check_limits(alloc, &domain.schema, &domain.rules, &weights, &records.plan)?;
+    check_limits(
+        alloc,
+        &domain.schema,
+        &domain.rules,
+        &weights,
+        &records.plan,
+    )?;
     Ok(Problem {
         domain: place,
         plan: records.plan,

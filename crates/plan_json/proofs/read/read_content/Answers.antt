@@ -10,8 +10,8 @@ returns-in_err-check_limits-clause-err g c =
     let d = c.args.domain.now in
     let p = err_from_is_err_and c.from_residual-in_err-check_limits.result c.from_residual-in_err-check_limits.ensures.1 in
     let same = content_limits (domain_with d.name d.schema d.rules.defs d.rules.caps) (view c.args.root.now) _ _ (view c.facts_of.result.now) c.in_ok-weights.weights c.in_ok-records.records.plan
-        c.member.ensures c.member-2.ensures c.facts_of.ensures c.in_ok-settings.ensures.ok (no_fault_over d.rules.defs _ _ c.as_slice-defs.ensures c.in_ok-weights.ensures.ok) c.in_ok-records.ensures.ok
-        (weights_over d.rules.defs _ _ _ c.as_slice-defs.ensures c.in_ok-weights.ensures.weights) c.in_ok-records.ensures.plan in
+    c.member.ensures c.member-2.ensures c.facts_of.ensures c.in_ok-settings.ensures.ok (no_fault_over d.rules.defs _ _ c.as_slice-defs.ensures c.in_ok-weights.ensures.ok) c.in_ok-records.ensures.ok
+    (weights_over d.rules.defs _ _ _ c.as_slice-defs.ensures c.in_ok-weights.ensures.weights) c.in_ok-records.ensures.plan in
     rw (p.1, p.2) (refused_as _ _ c.in_err-check_limits.field-0.0 same c.in_err-check_limits.ensures.err)
 
 pub returns-clause-accepted : goal.returns-clause-accepted

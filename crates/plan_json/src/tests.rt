@@ -1,0 +1,256 @@
+ghost use Rattle.std.specs.Prelude.{◌≡◌, IfOk};
+
+use super::*;
+use plan_facts::{ClassDef, FieldDef, Kind, List, Memory, Schema, Text, VarDef, is_name};
+use plan_rules::{Book, Head, RuleDef, Rules};
+use plan_scores::Level;
+use problem_faults::{ProblemFault, write_refusal};
+use std::alloc::Global;
+use std::process::Abort;
+use std::test::Fail;
+
+const LESSON: u8 = 2;
+
+/// The book of rules that ask no closure.
+#[derive(Drop)]
+struct Silent;
+
+impl Book for Silent {
+    ghost use Rattle.std.specs.Prelude.{pos, false};
+
+    ghost meaning = { record { test_of = λ _ _. false; key_of = λ _ _. pos 0; weight_of = λ _ _. 0 } };
+}
+
+/// A class with these fields and these variables.
+fn class_of(
+    alloc: Global,
+    name: &[u8],
+    fields: &[(&[u8], Kind)],
+    vars: &[(&[u8], u8)],
+) -> Result<ClassDef, Memory> {
+    let mut class = ClassDef {
+        name: Text::from_slice(alloc, name)?,
+        fields: List::new(alloc),
+        vars: List::new(alloc),
+    };
+    for (name, kind) in fields {
+        let name = Text::from_slice(alloc, name)?;
+        class.fields.push(FieldDef { name, kind: *kind })?;
+    }
+    for (name, values) in vars {
+        let name = Text::from_slice(alloc, name)?;
+        class.vars.push(VarDef {
+            name,
+            values: *values,
+        })?;
+    }
+    Ok(class)
+}
+
+/// Timeslots, rooms, and lessons that have a slot and a room.
+fn classes(alloc: Global) -> Result<List<ClassDef>, Memory> {
+    let mut classes = List::new(alloc);
+    classes.push(class_of(alloc, b"timeslot", &[(b"day", Kind::Number)], &[])?)?;
+    classes.push(class_of(alloc, b"room", &[(b"capacity", Kind::Number)], &[])?)?;
+    classes.push(class_of(
+        alloc,
+        b"lesson",
+        &[(b"subject", Kind::Name), (b"size", Kind::Number)],
+        &[(b"slot", 0), (b"room", 1)],
+    )?)?;
+    Ok(classes)
+}
+
+/// One rule, which every placed lesson matches, of weight 1.
+fn rules(alloc: Global) -> Result<List<RuleDef>, Memory> {
+    let mut rules = List::new(alloc);
+    rules.push(RuleDef {
+        name: Text::from_slice(alloc, b"any_lesson")?,
+        level: Level::Hard,
+        reward: false,
+        weight: 1,
+        weigh: None,
+        head: Head::ForEach(LESSON),
+        nodes: List::new(alloc),
+    })?;
+    Ok(rules)
+}
+
+/// A domain of this name.
+fn domain(alloc: Global, name: &[u8]) -> Result<Domain<Silent>, Fail> {
+    let name = Text::from_slice(alloc, name)?;
+    if !is_name(name.as_slice()) {
+        return Err("no name".into());
+    }
+    let schema = Schema::build(classes(alloc)?)?;
+    let rules = Rules::build(
+        alloc,
+        &schema,
+        rules(alloc)?,
+        List::new(alloc),
+        List::new(alloc),
+        List::new(alloc),
+    )?;
+    Ok(Domain::new(name, schema, rules, Vec::new(alloc)))
+}
+
+/// Two domains, of which problems name the second.
+fn domains(alloc: Global) -> Result<Vec<Domain<Silent>>, Fail> {
+    let mut domains = Vec::new(alloc);
+    domains.push(domain(alloc, b"roster")?)?;
+    domains.push(domain(alloc, b"timetable")?)?;
+    Ok(domains)
+}
+
+/// The line of a refusal; no bytes where nothing is refused.
+fn line(answer: Result<Problem, ProblemFault>, alloc: Global) -> Result<Vec<u8>, Memory> {
+    let mut out = Vec::new(alloc);
+    if let Err(fault) = answer {
+        write_refusal(&fault, &mut out)?;
+    }
+    Ok(out)
+}
+
+fn try_problem(
+    rt: &impl Abort,
+    alloc: Global,
+    domains: &[Domain<Silent>],
+    text: &[u8],
+    wanted: &[u8],
+) -> Result<(), Fail> {
+    let answer = read_problem(alloc, text, domains);
+    assert_eq!(rt; line(answer, alloc)?.as_slice(), wanted);
+    Ok(())
+}
+
+/// Problems, beside what is written of them.
+const PROBLEMS: [(&[u8], &[u8]); 16] = [
+    (b"{", b"refused problem json\n"),
+    (b"[]", b"refused problem shape /\n"),
+    (
+        b"{\"format\":2,\"domain\":\"chess\",\"facts\":{}}",
+        b"refused problem shape /format\n",
+    ),
+    (
+        b"{\"format\":1,\"domain\":\"chess\",\"settings\":{\"steps\":1000001},\"facts\":{}}",
+        b"refused problem domain\n",
+    ),
+    (
+        b"{\"format\":1,\"domain\":\"timetable\",\"settings\":{\"steps\":1000001},\"weights\":{\"any_lesson\":1000001},\"facts\":{}}",
+        b"refused problem setting steps\n",
+    ),
+    (
+        b"{\"format\":1,\"domain\":\"timetable\",\"weights\":{\"any_lesson\":1000001},\"facts\":{\"lesson\":[{\"id\":1}]}}",
+        b"refused problem shape /weights/any_lesson\n",
+    ),
+    (
+        b"{\"format\":1,\"domain\":\"timetable\",\"weights\":{\"no_lesson\":1},\"facts\":{}}",
+        b"refused problem shape /weights\n",
+    ),
+    (
+        b"{\"format\":1,\"domain\":\"timetable\",\"facts\":{\"lesson\":[{\"id\":1,\"subject\":\"Maths\"}]}}",
+        b"refused problem shape /facts/lesson/0/size\n",
+    ),
+    (
+        b"{\"format\":1,\"domain\":\"timetable\",\"facts\":{\"room\":[{\"id\":1,\"capacity\":1000000001}]}}",
+        b"refused problem bad_field room#1 capacity\n",
+    ),
+    (
+        b"{\"format\":1,\"domain\":\"timetable\",\"facts\":{\"room\":[{\"id\":1,\"capacity\":30},{\"id\":1,\"capacity\":30}]}}",
+        b"refused problem double_id room#1\n",
+    ),
+    (
+        b"{\"format\":1,\"domain\":\"timetable\",\"facts\":{\"lesson\":[{\"id\":1,\"subject\":\"Maths\",\"size\":20,\"slot\":9}]}}",
+        b"refused problem bad_value lesson#1 slot\n",
+    ),
+    (
+        b"{\"format\":1,\"domain\":\"timetable\",\"facts\":{\"block\":[]}}",
+        b"refused problem shape /facts\n",
+    ),
+    (b"", b"refused problem json\n"),
+    (
+        b"{\"format\":1,\"domain\":\"timetable\",\"facts\":{}} {}",
+        b"refused problem json\n",
+    ),
+    (b"{\"format\":1,\"domain\":\"timetable\",\"facts\":{}}", b""),
+    (
+        b"{\"format\":1,\"domain\":\"roster\",\"settings\":{\"steps\":1000000},\"weights\":{\"any_lesson\":1000000},\"facts\":{}}",
+        b"",
+    ),
+];
+
+#[test]
+fn refuses_problems_by_the_first_fault(rt: HostRuntime) -> Result<(), Fail> {
+    let domains = domains(rt.alloc())?;
+    for (text, wanted) in &PROBLEMS {
+        try_problem(&rt, rt.alloc(), &domains, text, wanted)?;
+    }
+    Ok(())
+}
+
+/// The last digit of a number.
+fn digit(number: u32) -> u8 {
+    b"0123456789"[(number % 10) as usize]
+}
+
+/// Writes so many records, of ids from 101 on with three digits, which have one further member.
+fn push_records(out: &mut Vec<u8>, count: u32, member: &[u8]) -> Result<(), Memory> {
+    let mut comma: &[u8] = b"";
+    for place in 0..count {
+        out.extend_from_slice(comma)?;
+        out.extend_from_slice(b"{\"id\":")?;
+        out.push(digit(place / 100 + 1))?;
+        out.push(digit(place / 10))?;
+        out.push(digit(place))?;
+        out.extend_from_slice(member)?;
+        comma = b",";
+    }
+    Ok(())
+}
+
+/// A problem with so many timeslots, as many rooms, and no lesson.
+fn wide_problem(alloc: Global, count: u32) -> Result<Vec<u8>, Memory> {
+    let mut out = Vec::from_slice(
+        alloc,
+        b"{\"format\":1,\"domain\":\"timetable\",\"facts\":{\"timeslot\":[",
+    )?;
+    push_records(&mut out, count, b",\"day\":1}")?;
+    out.extend_from_slice(b"],\"room\":[")?;
+    push_records(&mut out, count, b",\"capacity\":30}")?;
+    out.extend_from_slice(b"]}}")?;
+    Ok(out)
+}
+
+#[test]
+fn accepts_as_many_combinations_as_the_limit(rt: HostRuntime) -> Result<(), Fail> {
+    let domains = domains(rt.alloc())?;
+    let cases: [(u32, &[u8]); 3] = [
+        (256, b""),
+        (257, b"refused problem range_product lesson\n"),
+        (300, b"refused problem range_product lesson\n"),
+    ];
+    for (count, wanted) in cases {
+        let text = wide_problem(rt.alloc(), count)?;
+        try_problem(&rt, rt.alloc(), &domains, &text, wanted)?;
+    }
+    Ok(())
+}
+
+/// A problem that says all.
+const TOLD: &[u8] =
+    b"{\"facts\":{\"lesson\":[{\"id\":4,\"subject\":\"Physics\",\"size\":20},{\"room\":7,\"id\":1,\"subject\":\"Maths\",\"size\":-3,\"slot\":null}],\"room\":[{\"id\":7,\"capacity\":30}]},\"weights\":{\"any_lesson\":5},\"settings\":{\"seed\":9,\"steps\":3},\"domain\":\"timetable\",\"format\":1}";
+
+#[test]
+fn reads_a_problem(rt: HostRuntime) -> Result<(), Fail> {
+    let domains = domains(rt.alloc())?;
+    let read = read_problem(rt.alloc(), TOLD, &domains)?;
+    assert_eq!(rt; read.domain, 1);
+    assert_eq!(rt; (read.settings.seed, read.settings.steps), (9, 3));
+    assert_eq!(rt; read.weights.as_slice(), [5].as_slice());
+    assert_eq!(rt; (read.plan.made(), read.plan.unplaced()), (3, 3));
+    let lesson = read.plan.raw(LESSON, 1).ok_or("no such lesson")?;
+    assert_eq!(rt; lesson.fields.as_slice(), [1, -3].as_slice());
+    assert_eq!(rt; lesson.values.as_slice(), [None, Some(7)].as_slice());
+    assert_eq!(rt; read.names.find(b"Maths"), Some(1));
+    Ok(())
+}

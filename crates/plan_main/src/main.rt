@@ -51,34 +51,38 @@ fn domain_of(
 }
 
 /// Runs what the words ask for, over real files, in these domains.
-fn run_words<T: Threads + Wait + Sync>(rt: &HostRuntime, threads: &T, alloc: Global, domains: &[Domain<Shipped>]) -> Result<Status, Memory>
+fn run_words<T: Threads + Wait + Sync>(
+    rt: &HostRuntime,
+    threads: &T,
+    alloc: Global,
+    domains: &[Domain<Shipped>],
+) -> Result<Status, Memory>
     requires keeps { All (λ domain. ⟦<Rules<Shipped> as Kept>⟧.keeps domain.rules) domains.now }
 {
     let words = words_of(rt, alloc)?;
     let mut shelf = FileShelf::new(rt);
     let mut out = OutSink::new(rt);
-    Ok(run(threads, alloc, &words, &mut shelf, &mut out, &NoGate, domains))
+    Ok(run(
+        threads, alloc, &words, &mut shelf, &mut out, &NoGate, domains,
+    ))
 }
 
-/// Makes the roster, and runs what the words ask for in it and the timetable.
-fn run_with_roster<T: Threads + Wait + Sync>(rt: &HostRuntime, threads: &T, alloc: Global, timetable: Domain<Shipped>) -> Result<Status, Memory>
-    requires keeps { ⟦<Rules<Shipped> as Kept>⟧.keeps timetable.rules }
-{
+/// Makes the timetable and the roster, and runs what the words ask for in them. All boxes of the domains are made here,
+/// since a function that makes a box can't hand it out.
+fn run_with_domains<T: Threads + Wait + Sync>(
+    rt: &HostRuntime,
+    threads: &T,
+    alloc: Global,
+) -> Result<Status, Memory> {
+    let schema = domain_timetable::schema(alloc)?;
+    let rules = shipped_rules!(alloc, domain_timetable, &schema);
+    let maker: Box<dyn MoveMaker> = Box::new(alloc, domain_timetable::Maker)?;
+    let timetable = domain_of(alloc, b"timetable", schema, rules, maker)?;
     let schema = domain_roster::schema(alloc)?;
     let rules = shipped_rules!(alloc, domain_roster, &schema);
     let maker: Box<dyn MoveMaker> = Box::new(alloc, domain_roster::Maker)?;
     let roster = domain_of(alloc, b"roster", schema, rules, maker)?;
     run_words(rt, threads, alloc, &[timetable, roster])
-}
-
-/// Makes the timetable and then the roster, and runs what the words ask for. Each box is made in a function that is
-/// still running when it is used, since a function that makes a box can't hand it out.
-fn run_with_domains<T: Threads + Wait + Sync>(rt: &HostRuntime, threads: &T, alloc: Global) -> Result<Status, Memory> {
-    let schema = domain_timetable::schema(alloc)?;
-    let rules = shipped_rules!(alloc, domain_timetable, &schema);
-    let maker: Box<dyn MoveMaker> = Box::new(alloc, domain_timetable::Maker)?;
-    let timetable = domain_of(alloc, b"timetable", schema, rules, maker)?;
-    run_with_roster(rt, threads, alloc, timetable)
 }
 
 /// Ends with the number of the status; without memory for the domains or the words nothing is written.

@@ -5,12 +5,16 @@ ghost use Rattle.plan_scores.specs.Order.{is_better_plan};
 ghost use Rattle.plan_moves.specs.declared.edit.Set.{Set};
 ghost use Rattle.plan_moves.specs.Edits.{AreInOrder, applied, is_legal};
 ghost use Rattle.plan_rules.specs.Range.{sizes_of};
+ghost use Rattle.plan_search.specs.Posed.{whole_score};
+ghost use Rattle.construction.specs.Judge.{MayJudge};
 ghost use Rattle.plan_search.specs.Placing.{best_edit, choices_of, combinations, null_places, values_of};
 ghost use Rattle.construction.specs.Best.{IsBestOf, MayGoOn};
 
-use crate::scorer::Scorer;
+use crate::judge::Judge;
 use plan_facts::{List, Memory, Plan};
 use plan_moves::{Edit, Set, Touch};
+use plan_recalc::score_alone;
+use plan_rules::{Book, Kept, Rules};
 use plan_scores::PlanScore;
 use std::alloc::Global;
 
@@ -34,29 +38,30 @@ fn edit_of(alloc: Global, sets: &[Set]) -> Result<Edit, Memory>
 }
 
 /// The score after an edit. The plan stays as it was.
-fn judged<S: Scorer>(
+fn judged<B: Book>(
     alloc: Global,
-    scorer: &S,
+    judge: &Judge<'_, B>,
     plan: &mut Plan,
     edit: &Edit,
 ) -> Result<PlanScore, Memory>
     requires plan { IsPlan plan.old }
     requires legal { IsTrue (is_legal plan.old edit.now) }
-    requires may { S.may_score scorer.now (sizes_of plan.old) }
-    ensures score { IfOk result (λ score. score ≡ S.score_of scorer.now (applied plan.old edit.now)) }
+    requires keeps { ⟦<Rules<B> as Kept>⟧.keeps judge.now.rules.now }
+    requires may { MayJudge judge.now.rules.now.defs judge.now.weights.now judge.now.rules.now.caps (sizes_of plan.old) }
+    ensures score { IfOk result (λ score. score ≡ whole_score B.meaning judge.now.rules.now.defs judge.now.weights.now (applied plan.old edit.now)) }
     ensures same { plan.new ≡ plan.old }
 {
     let back = edit.inverse(plan)?;
     edit.apply(plan);
-    let score = scorer.score(alloc, plan);
+    let score = score_alone(alloc, judge.rules, plan, judge.weights);
     back.apply(plan);
     score
 }
 
 /// Judges one more edit, and keeps it where it is better than the best so far.
-fn consider<S: Scorer>(
+fn consider<B: Book>(
     alloc: Global,
-    scorer: &S,
+    judge: &Judge<'_, B>,
     plan: &mut Plan,
     sets: &[Set],
     best: &mut Option<Best>,
@@ -64,13 +69,14 @@ fn consider<S: Scorer>(
     requires plan { IsPlan plan.old }
     requires order { AreInOrder sets.now }
     requires legal { IsTrue (is_legal plan.old sets.now) }
-    requires may { S.may_score scorer.now (sizes_of plan.old) }
-    ensures best { (edits : List (List Set)) → IsBestOf (S.score_of scorer.now) plan.old edits best.old →
-        OnOk result (IsBestOf (S.score_of scorer.now) plan.old (edits ++ sets.now ∷ []) best.new) }
+    requires keeps { ⟦<Rules<B> as Kept>⟧.keeps judge.now.rules.now }
+    requires may { MayJudge judge.now.rules.now.defs judge.now.weights.now judge.now.rules.now.caps (sizes_of plan.old) }
+    ensures best { (edits : List (List Set)) → IsBestOf (whole_score B.meaning judge.now.rules.now.defs judge.now.weights.now) plan.old edits best.old →
+        OnOk result (IsBestOf (whole_score B.meaning judge.now.rules.now.defs judge.now.weights.now) plan.old (edits ++ sets.now ∷ []) best.new) }
     ensures same { plan.new ≡ plan.old }
 {
     let edit = edit_of(alloc, sets)?;
-    let score = judged(alloc, scorer, plan, &edit)?;
+    let score = judged(alloc, judge, plan, &edit)?;
     if is_better(best, &score) {
         *best = Some(Best { edit, score });
     }
@@ -115,9 +121,9 @@ fn choice_count(plan: &Plan, entity: Touch, var: u8) -> usize
 }
 
 /// Judges the edits that add to these sets one choice for each of the entity's variables, which are null.
-fn consider_all<S: Scorer>(
+fn consider_all<B: Book>(
     alloc: Global,
-    scorer: &S,
+    judge: &Judge<'_, B>,
     plan: &mut Plan,
     entity: Touch,
     vars: &[u8],
@@ -125,21 +131,22 @@ fn consider_all<S: Scorer>(
     best: &mut Option<Best>,
 ) -> Result<(), Memory>
     requires plan { IsPlan plan.old }
-    requires may { S.may_score scorer.now (sizes_of plan.old) }
+    requires keeps { ⟦<Rules<B> as Kept>⟧.keeps judge.now.rules.now }
+    requires may { MayJudge judge.now.rules.now.defs judge.now.weights.now judge.now.rules.now.caps (sizes_of plan.old) }
     requires go_on { MayGoOn plan.old entity vars.now sets.old.items }
-    ensures best { (edits : List (List Set)) → IsBestOf (S.score_of scorer.now) plan.old edits best.old →
-        OnOk result (IsBestOf (S.score_of scorer.now) plan.old
+    ensures best { (edits : List (List Set)) → IsBestOf (whole_score B.meaning judge.now.rules.now.defs judge.now.weights.now) plan.old edits best.old →
+        OnOk result (IsBestOf (whole_score B.meaning judge.now.rules.now.defs judge.now.weights.now) plan.old
         (edits ++ map (λ chosen. sets.old.items ++ chosen) (combinations (map (choices_of plan.old entity) vars.now))) best.new) }
     ensures same { plan.new ≡ plan.old }
     ensures kept { OnOk result (sets.new.items ≡ sets.old.items) }
 {
     let [var, others @ ..] = vars else {
-        return consider(alloc, scorer, plan, sets, best);
+        return consider(alloc, judge, plan, sets, best);
     };
     'choices: for place in 0..choice_count(plan, entity, *var) {
         let choice = choice_at(plan, entity, *var, place);
         sets.push(choice)?;
-        consider_all(alloc, scorer, plan, entity, others, sets, best)?;
+        consider_all(alloc, judge, plan, entity, others, sets, best)?;
         sets.pop();
     }
     Ok(())
@@ -164,15 +171,16 @@ fn nulls_of(alloc: Global, plan: &Plan, entity: Touch) -> Result<List<u8>, Memor
 
 /// The best of the edits that place an entity, with the score after it; none where a null variable has no value to
 /// choose. The plan stays as it was.
-pub fn best_of<S: Scorer>(
+pub fn best_of<B: Book>(
     alloc: Global,
-    scorer: &S,
+    judge: &Judge<'_, B>,
     plan: &mut Plan,
     entity: Touch,
 ) -> Result<Option<Best>, Memory>
-    requires { S.may_score scorer.now (sizes_of plan.old) }
-    ensures edit { IfOk result (λ best. option_map (λ b. b.edit) best ≡ best_edit (S.score_of scorer.now) plan.old entity) }
-    ensures score { IfOk result (λ best. IfSome best (λ b. b.score ≡ S.score_of scorer.now (applied plan.old b.edit))) }
+    requires keeps { ⟦<Rules<B> as Kept>⟧.keeps judge.now.rules.now }
+    requires may { MayJudge judge.now.rules.now.defs judge.now.weights.now judge.now.rules.now.caps (sizes_of plan.old) }
+    ensures edit { IfOk result (λ best. option_map (λ b. b.edit) best ≡ best_edit (whole_score B.meaning judge.now.rules.now.defs judge.now.weights.now) plan.old entity) }
+    ensures score { IfOk result (λ best. IfSome best (λ b. b.score ≡ whole_score B.meaning judge.now.rules.now.defs judge.now.weights.now (applied plan.old b.edit))) }
     ensures legal { IfOk result (λ best. IfSome best (λ b. IsTrue (is_legal plan.old b.edit))) }
     ensures same { plan.new ≡ plan.old }
 {
@@ -181,7 +189,7 @@ pub fn best_of<S: Scorer>(
     let mut best = None;
     consider_all(
         alloc,
-        scorer,
+        judge,
         plan,
         entity,
         vars.as_slice(),

@@ -3,11 +3,11 @@
 
 mod best;
 mod first_fit;
-mod scorer;
+mod judge;
 mod todo;
 
 pub use first_fit::{Placing, place};
-pub use scorer::Scorer;
+pub use judge::Judge;
 
 #[cfg(test)]
 mod tests;

@@ -1,29 +1,34 @@
-ghost use Rattle.std.specs.Prelude.{◌≡◌};
-ghost use Rattle.plan_facts.specs.Plan.{unplaced_of};
-ghost use Rattle.plan_scores.specs.Sum.{zero_score};
+ghost use Rattle.std.specs.Prelude.{◌≡◌, [], IfOk, pos, true};
 
 use super::*;
 use plan_facts::{ClassDef, List, Memory, Plan, Raw, Schema, Text, VarDef};
 use plan_moves::Touch;
-use plan_scores::{PlanScore, Score};
+use plan_rules::{Book, Kept, RuleFault, Rules};
+use plan_scores::Score;
 use std::alloc::Global;
 use std::test::Fail;
 
-/// Scores nothing but how many variables are null.
+/// No closure means anything.
 #[derive(Drop)]
 struct Nothing;
 
-impl Scorer for Nothing {
-    ghost score_of = { λ _ plan. record { unplaced = unplaced_of plan; score = zero_score } };
+impl Book for Nothing {
+    ghost meaning = { record { test_of = λ _ _. true; key_of = λ _ _. pos 0; weight_of = λ _ _. 1 } };
+}
 
-    ghost may_score = { λ _ _. Unit {0} };
-
-    fn score(&self, _alloc: Global, plan: &Plan) -> Result<PlanScore, Memory> {
-        Ok(PlanScore {
-            unplaced: plan.unplaced(),
-            score: Score::zero(),
-        })
-    }
+/// No rules over a schema.
+fn no_rules(alloc: Global, schema: &Schema) -> Result<Rules<Nothing>, RuleFault>
+    ensures keeps { IfOk result (λ rules. ⟦<Rules<Nothing> as Kept>⟧.keeps rules) }
+    ensures none { IfOk result (λ rules. rules.defs ≡ []) }
+{
+    Rules::build(
+        alloc,
+        schema,
+        List::new(alloc),
+        List::new(alloc),
+        List::new(alloc),
+        List::new(alloc),
+    )
 }
 
 fn class(alloc: Global, name: &[u8], vars: &[(&str, u8)]) -> Result<ClassDef, Memory> {
@@ -54,7 +59,7 @@ fn records(alloc: Global, rows: &[(u32, &[Option<u32>])]) -> Result<List<Raw>, M
 }
 
 /// Slots 3 and 4, the rooms with these ids, and lessons 1, 2 and 3: the second is in slot 4 already.
-fn plan(alloc: Global, rooms: &[(u32, &[Option<u32>])]) -> Result<Plan, Fail> {
+fn plan(alloc: Global, rooms: &[(u32, &[Option<u32>])]) -> Result<(Schema, Plan), Fail> {
     let mut classes = List::new(alloc);
     classes.push(class(alloc, b"slot", &[])?)?;
     classes.push(class(alloc, b"room", &[])?)?;
@@ -71,14 +76,20 @@ fn plan(alloc: Global, rooms: &[(u32, &[Option<u32>])]) -> Result<Plan, Fail> {
             (3, &[None, None]),
         ],
     )?)?;
-    Ok(Plan::of(alloc, &schema, lists)?)
+    let plan = Plan::of(alloc, &schema, lists)?;
+    Ok((schema, plan))
 }
 
 #[test]
 fn entities_are_placed_in_order_by_the_first_of_equals(rt: HostRuntime) -> Result<(), Fail> {
     let alloc = rt.alloc();
-    let mut plan = plan(alloc, &[(9, &[]), (7, &[])])?;
-    let placing = place(alloc, &Nothing, &mut plan)?;
+    let (schema, mut plan) = plan(alloc, &[(9, &[]), (7, &[])])?;
+    let rules = no_rules(alloc, &schema)?;
+    let judge = Judge {
+        rules: &rules,
+        weights: &[],
+    };
+    let placing = place(alloc, &judge, &mut plan)?;
     assert!(rt; placing.stuck.is_none());
     let wanted = [
         (1, [Some(3), Some(7)], 3),
@@ -90,6 +101,7 @@ fn entities_are_placed_in_order_by_the_first_of_equals(rt: HostRuntime) -> Resul
         assert_eq!(rt; (one.class, one.id), (2, id));
         assert_eq!(rt; one.values.as_slice(), values.as_slice());
         assert_eq!(rt; one.score.unplaced, unplaced);
+        assert_eq!(rt; one.score.score, Score::zero());
     }
     assert_eq!(rt; plan.unplaced(), 0);
     Ok(())
@@ -98,8 +110,13 @@ fn entities_are_placed_in_order_by_the_first_of_equals(rt: HostRuntime) -> Resul
 #[test]
 fn placing_is_stuck_where_a_variable_has_no_value(rt: HostRuntime) -> Result<(), Fail> {
     let alloc = rt.alloc();
-    let mut plan = plan(alloc, &[])?;
-    let placing = place(alloc, &Nothing, &mut plan)?;
+    let (schema, mut plan) = plan(alloc, &[])?;
+    let rules = no_rules(alloc, &schema)?;
+    let judge = Judge {
+        rules: &rules,
+        weights: &[],
+    };
+    let placing = place(alloc, &judge, &mut plan)?;
     assert_eq!(rt; placing.stuck, Some(Touch { class: 2, id: 1 }));
     assert_eq!(rt; placing.placed.len(), 0);
     assert_eq!(rt; plan.unplaced(), 5);

@@ -12,7 +12,7 @@ use plan_facts::Memory;
 use plan_json::{Domain, Problem, read_problem};
 use plan_ports::Sink;
 use plan_rules::{Book, Kept, Rules};
-use crate::stub::{score_text, solve_text};
+use plan_texts::{score_text, solve_text};
 use problem_faults::{ProblemFault, write_refusal};
 use std::alloc::Global;
 

@@ -3,9 +3,8 @@
 
 mod answer;
 mod outside;
-mod top;
 mod status;
-mod stub;
+mod top;
 
-pub use top::run;
 pub use status::Status;
+pub use top::run;

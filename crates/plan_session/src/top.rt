@@ -22,7 +22,9 @@ fn task_of(command: &Command) -> Option<(&[u8], Wanted)>
 {
     match command {
         Command::Solve {
-            name, feed: None, ..
+            name,
+            feed: None,
+            ..
         } => Some((name.as_slice(), Wanted::Solution)),
         Command::Score { name } => Some((name.as_slice(), Wanted::Score)),
         _ => None,

@@ -1,5 +1,5 @@
 -- A problem is read item by item.
-use Rattle.std.proofs.Common.{◌≡◌, ◌∙◌, ◌⊎◌, ◌<◌, ◌≤◌, ◌^◌, ℕ, zero, suc, Bool, true, false, cond, List, [], ◌∷◌, Option, Some, None, Result, Ok, Err, IfOk, IfErr, OnOk, IsSomeAnd, All, map, length, get_or, slice_get, inl, inr, refl, sym, ap, subst, arith}
+use Rattle.std.proofs.Common.{◌≡◌, ◌∙◌, ◌⊎◌, ◌<◌, ◌≤◌, ℕ, zero, suc, cond, List, [], ◌∷◌, Option, Some, None, Result, Ok, Err, IfOk, IfErr, OnOk, IsSomeAnd, All, map, length, get_or, slice_get, inl, inr, refl, sym, ap, subst, arith}
 use Rattle.std.specs.Prelude.{position, codes}
 use Rattle.std.specs.Option.{option_or, option_and_then}
 use Rattle.std.specs.Str.{bytes_eq}
@@ -20,7 +20,7 @@ use Rattle.plan_facts.specs.Plan.{PlanView}
 use Rattle.plan_facts.specs.PlanFaults.{plan_of}
 use Rattle.problem_faults.specs.Refusals.{IsRefusal}
 use Rattle.problem_faults.specs.declared.fault.ProblemFault.{ProblemFault}
-use Rattle.problem_faults.specs.declared.fault.ProblemFault.TheVariants.{Memory, TooLong, Json}
+use Rattle.problem_faults.specs.declared.fault.ProblemFault.TheVariants.{Memory, TooLong}
 use Rattle.problem_settings.specs.Root.{root_fault}
 use Rattle.problem_settings.specs.SettingsOf.{settings_fault_of}
 use Rattle.problem_settings.specs.Weights.{weights_fault, weights_of}

@@ -1,7 +1,7 @@
 -- The limits of a problem: how many combinations of values, rows and score it may lead to.
-use Rattle.std.specs.Prelude.{ℕ, ◌*◌, Bool, nat_lt, find, List, [], fold, map, length, Option, Some, None, option_map, slice_get, if◌then◌else◌}
+use Rattle.std.specs.Prelude.{ℕ, ◌*◌, Bool, nat_lt, find, List, [], fold, length, Option, option_map, slice_get}
 use Rattle.std.specs.Option.{option_or, option_map_or}
-use Rattle.plan_facts.specs.Plan.{PlanView, class_of, ids_of}
+use Rattle.plan_facts.specs.Plan.{PlanView, ids_of}
 use Rattle.plan_facts.specs.PlanFaults.{ranges_of}
 use Rattle.plan_facts.specs.declared.record.ClassDef.{ClassDef}
 use Rattle.plan_rules.specs.Range.{range_fault_of, sizes_of}

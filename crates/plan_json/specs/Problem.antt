@@ -1,5 +1,5 @@
 -- What a problem's bytes mean: a problem of one of the domains, or what it is refused for, from the value that serde_json reads.
-use Rattle.std.specs.Prelude.{◌≡◌, ◌⊎◌, ℕ, nat_lt, Bool, List, length, Option, Some, None, option_and_then, unwrap_or, map, position, Result, Ok, Err, codes, slice_get, if◌then◌else◌}
+use Rattle.std.specs.Prelude.{ℕ, nat_lt, List, length, Option, Some, None, option_and_then, unwrap_or, map, position, Result, Ok, Err, codes, slice_get, if◌then◌else◌}
 use Rattle.std.specs.Option.{option_or}
 use Rattle.std.specs.Str.{bytes_eq}
 use Rattle.serde_json.specs.Data.{Data}

@@ -1,4 +1,4 @@
-use Rattle.std.proofs.Common.{◌≡◌, ◌∙◌, ◌≤◌, ◌+◌, Some, cond, length, drop, sym, ap, arith}
+use Rattle.std.proofs.Common.{◌∙◌, ◌≤◌, ◌+◌, Some, cond, length, drop, sym, ap, arith}
 use Rattle.std.specs.Prelude.{find}
 use Rattle.plan_json.specs.Limits.{is_wide}
 use Rattle.plan_json.proofs.Firsts.{find_at, find_past}

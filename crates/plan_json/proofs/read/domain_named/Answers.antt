@@ -1,4 +1,4 @@
-use Rattle.std.proofs.Common.{◌≡◌, ◌∙◌, ◌<◌, ◌≤◌, [], length, map, sym, ap, arith, below_more}
+use Rattle.std.proofs.Common.{◌∙◌, [], sym, ap, below_more}
 use Rattle.std.specs.Str.{bytes_eq}
 use Rattle.plan_json.proofs.Firsts.{position_at, position_none, get_or-at, length-map-lt, length-map-le}
 use Rattle.plan_json.proofs.read.domain_named.Goals as goal

@@ -1,4 +1,3 @@
-use Rattle.std.proofs.Common.{sym}
 use Rattle.serde_json.specs.View.{view}
 use Rattle.plan_json.specs.Accepted.{IsAccepted}
 use Rattle.plan_json.specs.Problem.{domain_with}

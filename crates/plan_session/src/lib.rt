@@ -4,6 +4,8 @@
 mod answer;
 mod outside;
 mod status;
+#[cfg(test)]
+mod tests;
 mod top;
 
 pub use status::Status;

@@ -1,0 +1,261 @@
+ghost use Rattle.std.specs.Prelude.{◌≡◌, All, IfOk};
+
+use super::*;
+use plan_facts::{ClassDef, FieldDef, Kind, List, Memory, Schema, Text, VarDef, is_name};
+use plan_json::Domain;
+use plan_ports::{MemFile, MemShelf, MemSink, NoGate};
+use plan_rules::{Book, Head, Kept, RuleDef, Rules};
+use plan_scores::Level;
+use std::alloc::Global;
+use std::process::Abort;
+use std::sync::Wait;
+use std::test::Fail;
+use std::thread::Threads;
+
+const LESSON: u8 = 2;
+
+/// The book of rules that ask no closure.
+#[derive(Drop)]
+struct Silent;
+
+impl Book for Silent {
+    ghost use Rattle.std.specs.Prelude.{pos, false};
+
+    ghost meaning = { record { test_of = λ _ _. false; key_of = λ _ _. pos 0; weight_of = λ _ _. 0 } };
+}
+
+/// A class with these fields and these variables.
+fn class_of(
+    alloc: Global,
+    name: &[u8],
+    fields: &[(&[u8], Kind)],
+    vars: &[(&[u8], u8)],
+) -> Result<ClassDef, Memory> {
+    let mut class = ClassDef {
+        name: Text::from_slice(alloc, name)?,
+        fields: List::new(alloc),
+        vars: List::new(alloc),
+    };
+    for (name, kind) in fields {
+        let name = Text::from_slice(alloc, name)?;
+        class.fields.push(FieldDef { name, kind: *kind })?;
+    }
+    for (name, values) in vars {
+        let name = Text::from_slice(alloc, name)?;
+        class.vars.push(VarDef {
+            name,
+            values: *values,
+        })?;
+    }
+    Ok(class)
+}
+
+/// Slots, rooms, and lessons that have a slot and a room.
+fn classes(alloc: Global) -> Result<List<ClassDef>, Memory> {
+    let mut classes = List::new(alloc);
+    classes.push(class_of(alloc, b"timeslot", &[(b"day", Kind::Number)], &[])?)?;
+    classes.push(class_of(alloc, b"room", &[(b"capacity", Kind::Number)], &[])?)?;
+    classes.push(class_of(
+        alloc,
+        b"lesson",
+        &[(b"subject", Kind::Name)],
+        &[(b"slot", 0), (b"room", 1)],
+    )?)?;
+    Ok(classes)
+}
+
+/// One rule, which every placed lesson matches, a penalty of weight 1.
+fn defs(alloc: Global) -> Result<List<RuleDef>, Memory> {
+    let mut defs = List::new(alloc);
+    defs.push(RuleDef {
+        name: Text::from_slice(alloc, b"any_lesson")?,
+        level: Level::Hard,
+        reward: false,
+        weight: 1,
+        weigh: None,
+        head: Head::ForEach(LESSON),
+        nodes: List::new(alloc),
+    })?;
+    Ok(defs)
+}
+
+/// The domain `school`.
+fn school(alloc: Global) -> Result<Domain<Silent>, Fail>
+    ensures keeps { IfOk result (λ domain. ⟦<Rules<Silent> as Kept>⟧.keeps domain.rules) }
+{
+    let name = Text::from_slice(alloc, b"school")?;
+    if !is_name(name.as_slice()) {
+        return Err("no name".into());
+    }
+    let schema = Schema::build(classes(alloc)?)?;
+    let rules = Rules::build(
+        alloc,
+        &schema,
+        defs(alloc)?,
+        List::new(alloc),
+        List::new(alloc),
+        List::new(alloc),
+    )?;
+    Ok(Domain::new(name, schema, rules, Vec::new(alloc)))
+}
+
+/// A shelf on which these bytes stand under the name `p`, and whose opens of these numbers fail.
+fn shelf(alloc: Global, bytes: &[u8], fail: &[u32]) -> Result<MemShelf, Memory> {
+    let mut files = Vec::new(alloc);
+    files.push(MemFile {
+        name: Vec::from_slice(alloc, b"p")?,
+        bytes: Vec::from_slice(alloc, bytes)?,
+        most: 50,
+        fail: Vec::new(alloc),
+    })?;
+    Ok(MemShelf::new(alloc, files, Vec::from_slice(alloc, fail)?))
+}
+
+fn words_of(alloc: Global, texts: &[&str]) -> Result<Vec<Text>, Memory> {
+    let mut words = Vec::new(alloc);
+    for text in texts {
+        words.push(Text::from_slice(alloc, text.as_bytes())?)?;
+    }
+    Ok(words)
+}
+
+/// What the program's words are, the bytes of `p`, the opens and the puts that fail; then what is written and the status.
+struct Case {
+    words: &'static [&'static str],
+    bytes: &'static [u8],
+    opens: &'static [u32],
+    puts: &'static [u32],
+    text: &'static [u8],
+    status: Status,
+}
+
+fn try_case<T: Threads + Wait + Sync + Abort>(
+    rt: &T,
+    alloc: Global,
+    case: &Case,
+    domains: &[Domain<Silent>],
+) -> Result<(), Fail>
+    requires keeps { All (λ domain. ⟦<Rules<Silent> as Kept>⟧.keeps domain.rules) domains.now }
+{
+    let words = words_of(alloc, case.words)?;
+    let mut shelf = shelf(alloc, case.bytes, case.opens)?;
+    let mut out = MemSink::new(alloc, 1000, Vec::from_slice(alloc, case.puts)?);
+    let status = run(rt, alloc, &words, &mut shelf, &mut out, &NoGate, domains);
+    assert_eq!(rt; out.text(), case.text);
+    assert_eq!(rt; status, case.status);
+    Ok(())
+}
+
+/// A lesson that is placed, and one that isn't.
+const LESSONS: &[u8] =
+    b"{\"format\":1,\"domain\":\"school\",\"settings\":{\"steps\":0},\"facts\":{\"timeslot\":[{\"id\":1,\"day\":1},{\"id\":2,\"day\":2}],\"room\":[{\"id\":7,\"capacity\":30}],\"lesson\":[{\"id\":4,\"subject\":\"Physics\",\"slot\":2,\"room\":7},{\"id\":1,\"subject\":\"Maths\"}]}}";
+
+/// No facts, and one step.
+const STEPS: &[u8] =
+    b"{\"format\":1,\"domain\":\"school\",\"settings\":{\"steps\":1},\"facts\":{}}";
+
+const CASES: [Case; 9] = [
+    Case {
+        words: &["solve", "p"],
+        bytes: LESSONS,
+        opens: &[],
+        puts: &[],
+        text: b"run school\nleg 0\nplace lesson#1 slot=1 room=7 -2hard/0medium/0soft\nstart -2hard/0medium/0soft\nbest -2hard/0medium/0soft\nlesson#1 slot=1 room=7\nlesson#4 slot=2 room=7\nrule any_lesson 2 -2hard/0medium/0soft\nmatch -1hard/0medium/0soft lesson#1\nmatch -1hard/0medium/0soft lesson#4\nend\n",
+        status: Status::Ok,
+    },
+    Case {
+        words: &["score", "p"],
+        bytes: LESSONS,
+        opens: &[],
+        puts: &[],
+        text: b"score -2init/-1hard/0medium/0soft\nrule any_lesson 1 -1hard/0medium/0soft\nend\n",
+        status: Status::Ok,
+    },
+    Case {
+        words: &["solve", "p"],
+        bytes: STEPS,
+        opens: &[],
+        puts: &[],
+        text: b"refused problem unbuilt\n",
+        status: Status::Problem,
+    },
+    Case {
+        words: &["solve", "p"],
+        bytes: b"{",
+        opens: &[],
+        puts: &[],
+        text: b"refused problem json\n",
+        status: Status::Problem,
+    },
+    Case {
+        words: &["score", "q"],
+        bytes: LESSONS,
+        opens: &[],
+        puts: &[],
+        text: b"refused source\n",
+        status: Status::Source,
+    },
+    Case {
+        words: &["score", "p"],
+        bytes: LESSONS,
+        opens: &[0],
+        puts: &[],
+        text: b"refused source\n",
+        status: Status::Source,
+    },
+    Case {
+        words: &["score", "p"],
+        bytes: LESSONS,
+        opens: &[],
+        puts: &[0],
+        text: b"",
+        status: Status::Write,
+    },
+    Case {
+        words: &["explain", "p"],
+        bytes: LESSONS,
+        opens: &[],
+        puts: &[],
+        text: b"refused usage\n",
+        status: Status::Usage,
+    },
+    Case {
+        words: &[],
+        bytes: LESSONS,
+        opens: &[],
+        puts: &[],
+        text: b"refused usage\n",
+        status: Status::Usage,
+    },
+];
+
+#[test]
+fn runs_commands_over_memory(rt: HostRuntime) -> Result<(), Fail> {
+    let school = school(rt.alloc())?;
+    let domains = [school];
+    for case in &CASES {
+        try_case(&rt, rt.alloc(), case, &domains)?;
+    }
+    Ok(())
+}
+
+#[test]
+fn ends_with_the_number_of_the_status(rt: HostRuntime) -> Result<(), Fail> {
+    let statuses = [
+        Status::Ok,
+        Status::Memory,
+        Status::Usage,
+        Status::Source,
+        Status::Problem,
+        Status::Feed,
+        Status::Write,
+        Status::Journal,
+        Status::FeedTooLong,
+    ];
+    let mut numbers = Vec::new(rt.alloc());
+    for status in statuses {
+        numbers.push(status.number())?;
+    }
+    assert_eq!(rt; numbers.as_slice(), [0, 1, 2, 3, 4, 5, 6, 7, 8].as_slice());
+    Ok(())
+}

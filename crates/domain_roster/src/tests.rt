@@ -5,7 +5,26 @@ use plan_facts::{List, Memory, Plan, Raw, Rec, Value};
 use plan_moves::{Edit, MoveMaker, Set};
 use plan_rules::{Part, Row};
 use std::alloc::Global;
+use std::process::Abort;
 use std::test::Fail;
+
+/// A part of a row, in short: a shift at these times, with a worker or with none; another fact; or a number.
+enum Sketch {
+    Filled([i64; 3]),
+    Unfilled([i64; 3]),
+    Fact(u8, u32, [i64; 2]),
+    Num(i64),
+}
+
+/// A row, in short.
+enum RowSketch {
+    One(Sketch),
+    Two(Sketch, Sketch),
+    Three(i64, i64, Sketch),
+}
+
+use RowSketch::{One, Three, Two};
+use Sketch::{Fact, Filled, Num, Unfilled};
 
 fn fact(alloc: Global, class: u8, id: u32, fields: &[i64]) -> Result<Part, Memory> {
     Ok(Part::Fact(Rec {
@@ -16,21 +35,31 @@ fn fact(alloc: Global, class: u8, id: u32, fields: &[i64]) -> Result<Part, Memor
     }))
 }
 
-/// A shift that asks for skill 7, whose worker, if there is one, is employee 9 with skill 8.
-fn shift(alloc: Global, times: [i64; 3], has_worker: bool) -> Result<Part, Memory> {
+/// Employee 9, with skill 8.
+fn employee(alloc: Global) -> Result<Option<Value>, Memory> {
+    let fields = List::from_slice(alloc, &[8, 2])?;
+    Ok(Some(Value { id: 9, fields }))
+}
+
+/// A shift that asks for skill 7.
+fn shift(alloc: Global, times: &[i64; 3], worker: Option<Value>) -> Result<Part, Memory> {
     let mut planned = List::new(alloc);
-    if has_worker {
-        let fields = List::from_slice(alloc, &[8, 2])?;
-        planned.push(Some(Value { id: 9, fields }))?;
-    } else {
-        planned.push(None)?;
-    }
+    planned.push(worker)?;
     Ok(Part::Fact(Rec {
         class: 1,
         id: 1,
         fields: List::from_slice(alloc, &[times[0], times[1], times[2], 7])?,
         planned,
     }))
+}
+
+fn part(alloc: Global, sketch: &Sketch) -> Result<Part, Memory> {
+    match sketch {
+        Filled(times) => shift(alloc, times, employee(alloc)?),
+        Unfilled(times) => shift(alloc, times, None),
+        Fact(class, id, fields) => fact(alloc, *class, *id, fields),
+        Num(number) => Ok(Part::Num(*number)),
+    }
 }
 
 fn row(alloc: Global, one: Part) -> Result<Row, Memory>
@@ -55,90 +84,97 @@ fn row_of_three(alloc: Global, one: i64, other: i64, third: Part) -> Result<Row,
     Ok(row)
 }
 
+fn row_of(alloc: Global, sketch: &RowSketch) -> Result<Row, Memory> {
+    match sketch {
+        One(one) => row(alloc, part(alloc, one)?),
+        Two(one, other) => row_of_two(alloc, part(alloc, one)?, part(alloc, other)?),
+        Three(one, other, third) => row_of_three(alloc, *one, *other, part(alloc, third)?),
+    }
+}
+
+/// Rows, and what the keys from 16 on read of each.
+const KEYS_READ: [(RowSketch, [i64; 11]); 8] = [
+    (
+        One(Filled([3, 420, 900])),
+        [9, 3, 4, 420, 900, 0, 0, 0, 480, 0, 0],
+    ),
+    (
+        One(Filled([1_000_000_000, 900, 420])),
+        [9, 1_000_000_000, 1_000_000_000, 900, 420, 0, 0, 0, 0, 0, 0],
+    ),
+    (
+        One(Filled([3, 0, 1441])),
+        [9, 3, 4, 0, 1441, 0, 0, 0, 1440, 0, 0],
+    ),
+    (One(Unfilled([3, 420, 900])), [0; 11]),
+    (One(Fact(0, 5, [8, 2])), [0, 0, 0, 0, 0, 5, 0, 0, 0, 0, 0]),
+    (One(Fact(2, 1, [9, 3])), [0, 0, 0, 0, 0, 0, 9, 3, 0, 0, 0]),
+    (One(Fact(3, 1, [9, 3])), [0, 0, 0, 0, 0, 0, 9, 3, 0, 0, 0]),
+    (
+        One(Num(-1_000_000_001)),
+        [0, 0, 0, 0, 0, 0, 0, 0, 0, -1_000_000_000, 0],
+    ),
+];
+
+fn expect_keys(rt: &impl Abort, row: &Row, wanted: &[i64; 11]) {
+    for (number, wanted) in (16..27).zip(wanted.iter()) {
+        assert_eq!(rt; key_value(number, row), *wanted);
+    }
+}
+
 #[test]
 fn keys_read_their_numbers(rt: HostRuntime) -> Result<(), Fail> {
-    let alloc = rt.alloc();
-    let rows = [
-        row(alloc, shift(alloc, [3, 420, 900], true)?)?,
-        row(alloc, shift(alloc, [1_000_000_000, 900, 420], true)?)?,
-        row(alloc, shift(alloc, [3, 0, 1441], true)?)?,
-        row(alloc, shift(alloc, [3, 420, 900], false)?)?,
-        row(alloc, fact(alloc, 0, 5, &[8, 2])?)?,
-        row(alloc, fact(alloc, 2, 1, &[9, 3])?)?,
-        row(alloc, fact(alloc, 3, 1, &[9, 3])?)?,
-        row(alloc, Part::Num(-1_000_000_001))?,
-    ];
-    let wanted = [
-        [9, 3, 4, 420, 900, 0, 0, 0, 480, 0, 0],
-        [9, 1_000_000_000, 1_000_000_000, 900, 420, 0, 0, 0, 0, 0, 0],
-        [9, 3, 4, 0, 1441, 0, 0, 0, 1440, 0, 0],
-        [0, 0, 0, 0, 0, 0, 0, 0, 0, 0, 0],
-        [0, 0, 0, 0, 0, 5, 0, 0, 0, 0, 0],
-        [0, 0, 0, 0, 0, 0, 9, 3, 0, 0, 0],
-        [0, 0, 0, 0, 0, 0, 9, 3, 0, 0, 0],
-        [0, 0, 0, 0, 0, 0, 0, 0, 0, -1_000_000_000, 0],
-    ];
-    for (row, wanted) in rows.iter().zip(wanted.iter()) {
-        for (number, wanted) in (16..27).zip(wanted.iter()) {
-            assert_eq!(rt; key_value(number, row), *wanted);
-        }
+    for (sketch, wanted) in &KEYS_READ {
+        expect_keys(&rt, &row_of(rt.alloc(), sketch)?, wanted);
     }
     Ok(())
+}
+
+const LATE: Sketch = Filled([3, 420, 900]);
+
+/// Rows, and which of the tests from 16 on they pass.
+const PASSED: [(RowSketch, &[u16]); 8] = [
+    (Two(LATE, Filled([4, 59, 480])), &[16, 17]),
+    (Two(LATE, Filled([4, 60, 480])), &[16]),
+    (Three(9, 3, Fact(0, 9, [8, 2])), &[18]),
+    (Three(9, 6, Num(359)), &[19, 21]),
+    (Three(9, 2401, Num(1321)), &[19, 20, 22]),
+    (Three(9, 2, Fact(0, 9, [8, 2])), &[]),
+    (Three(9, 5, Num(360)), &[]),
+    (Three(9, 2400, Num(1320)), &[19]),
+];
+
+fn expect_passed(rt: &impl Abort, row: &Row, wanted: &[u16]) {
+    for number in 16..24 {
+        assert_eq!(rt; test_value(number, row), wanted.contains(&number));
+    }
 }
 
 #[test]
 fn tests_answer(rt: HostRuntime) -> Result<(), Fail> {
-    let alloc = rt.alloc();
-    let late = [3, 420, 900];
-    let rows = [
-        row_of_two(
-            alloc,
-            shift(alloc, late, true)?,
-            shift(alloc, [4, 59, 480], true)?,
-        )?,
-        row_of_two(
-            alloc,
-            shift(alloc, late, true)?,
-            shift(alloc, [4, 60, 480], true)?,
-        )?,
-        row_of_three(alloc, 9, 3, fact(alloc, 0, 9, &[8, 2])?)?,
-        row_of_three(alloc, 9, 6, Part::Num(359))?,
-        row_of_three(alloc, 9, 2401, Part::Num(1321))?,
-        row_of_three(alloc, 9, 2, fact(alloc, 0, 9, &[8, 2])?)?,
-        row_of_three(alloc, 9, 5, Part::Num(360))?,
-        row_of_three(alloc, 9, 2400, Part::Num(1320))?,
-    ];
-    let wanted = [
-        [true, true, false, false, false, false, false, false],
-        [true, false, false, false, false, false, false, false],
-        [false, false, true, false, false, false, false, false],
-        [false, false, false, true, false, true, false, false],
-        [false, false, false, true, true, false, true, false],
-        [false, false, false, false, false, false, false, false],
-        [false, false, false, false, false, false, false, false],
-        [false, false, false, true, false, false, false, false],
-    ];
-    for (row, wanted) in rows.iter().zip(wanted.iter()) {
-        for (number, wanted) in (16..24).zip(wanted.iter()) {
-            assert_eq!(rt; test_value(number, row), *wanted);
-        }
+    for (sketch, wanted) in &PASSED {
+        expect_passed(&rt, &row_of(rt.alloc(), sketch)?, wanted);
     }
     Ok(())
 }
 
+/// Rows, and the weights that the weighers from 16 on give each.
+const WEIGHED: [(RowSketch, [u32; 4]); 3] = [
+    (Three(9, 5, Fact(0, 9, [8, 2])), [3, 0, 0, 0]),
+    (Three(9, 2401, Num(0)), [0, 2396, 1, 0]),
+    (Three(9, 20_000, Num(0)), [0, 10_000, 10_000, 0]),
+];
+
+fn expect_weights(rt: &impl Abort, row: &Row, wanted: &[u32; 4]) {
+    for (number, wanted) in (16..20).zip(wanted.iter()) {
+        assert_eq!(rt; weight_value(number, row), *wanted);
+    }
+}
+
 #[test]
 fn weighers_answer(rt: HostRuntime) -> Result<(), Fail> {
-    let alloc = rt.alloc();
-    let rows = [
-        row_of_three(alloc, 9, 5, fact(alloc, 0, 9, &[8, 2])?)?,
-        row_of_three(alloc, 9, 2401, Part::Num(0))?,
-        row_of_three(alloc, 9, 20_000, Part::Num(0))?,
-    ];
-    let wanted = [[3, 0, 0, 0], [0, 2396, 1, 0], [0, 10_000, 10_000, 0]];
-    for (row, wanted) in rows.iter().zip(wanted.iter()) {
-        for (number, wanted) in (16..20).zip(wanted.iter()) {
-            assert_eq!(rt; weight_value(number, row), *wanted);
-        }
+    for (sketch, wanted) in &WEIGHED {
+        expect_weights(&rt, &row_of(rt.alloc(), sketch)?, wanted);
     }
     Ok(())
 }

@@ -5,6 +5,7 @@ use plan_facts::{List, Memory, Plan, Raw, Rec, Value};
 use plan_moves::{Edit, MoveMaker, Set};
 use plan_rules::{Part, Row};
 use std::alloc::Global;
+use std::process::Abort;
 use std::test::Fail;
 
 fn value(alloc: Global, id: u32, fields: &[i64]) -> Result<Option<Value>, Memory> {
@@ -73,23 +74,55 @@ fn block(alloc: Global) -> Result<Row, Memory> {
     row(alloc, fact)
 }
 
+/// A lesson that has a slot and no room.
+fn homeless_lesson(alloc: Global) -> Result<Row, Memory> {
+    let slot = value(alloc, 2, &[1, 480, 540])?;
+    row(alloc, lesson(alloc, 31, slot, None)?)
+}
+
+/// A row, in short.
+enum Sketch {
+    /// The lesson in slot 2 and room 3.
+    Lesson,
+    /// A lesson without a room.
+    Homeless,
+    /// That lesson, and one that starts at this minute.
+    Lessons(i64),
+    /// Three numbers, of which this is the third.
+    Numbers(i64),
+    /// A teacher's day away.
+    Block,
+}
+
+use Sketch::{Block, Homeless, Lesson, Lessons, Numbers};
+
+fn row_of(alloc: Global, sketch: &Sketch) -> Result<Row, Memory> {
+    match sketch {
+        Lesson => full_lesson(alloc),
+        Homeless => homeless_lesson(alloc),
+        Lessons(start) => two_lessons(alloc, *start),
+        Numbers(third) => three_numbers(alloc, *third),
+        Block => block(alloc),
+    }
+}
+
+/// Rows, and what the keys from 0 on read of each.
+const KEYS_READ: [(Sketch, [i64; 9]); 3] = [
+    (Lesson, [2, 3, 6, 7, 1, 5, 0, 0, 0]),
+    (Block, [0, 0, 0, 0, 0, 0, 6, 1, 0]),
+    (Homeless, [0; 9]),
+];
+
+fn expect_keys(rt: &impl Abort, row: &Row, wanted: &[i64; 9]) {
+    for (number, wanted) in (0..9).zip(wanted.iter()) {
+        assert_eq!(rt; key_value(number, row), *wanted);
+    }
+}
+
 #[test]
 fn keys_read_their_numbers(rt: HostRuntime) -> Result<(), Fail> {
-    let alloc = rt.alloc();
-    let homeless = row(
-        alloc,
-        lesson(alloc, 31, value(alloc, 2, &[1, 480, 540])?, None)?,
-    )?;
-    let rows = [full_lesson(alloc)?, block(alloc)?, homeless];
-    let wanted = [
-        [2, 3, 6, 7, 1, 5, 0, 0, 0],
-        [0, 0, 0, 0, 0, 0, 6, 1, 0],
-        [0, 0, 0, 0, 0, 0, 0, 0, 0],
-    ];
-    for (row, wanted) in rows.iter().zip(wanted.iter()) {
-        for (number, wanted) in wanted.iter().enumerate() {
-            assert_eq!(rt; key_value(number as u16, row), *wanted);
-        }
+    for (sketch, wanted) in &KEYS_READ {
+        expect_keys(&rt, &row_of(rt.alloc(), sketch)?, wanted);
     }
     Ok(())
 }
@@ -98,51 +131,53 @@ fn keys_read_their_numbers(rt: HostRuntime) -> Result<(), Fail> {
 fn a_key_is_clipped(rt: HostRuntime) -> Result<(), Fail> {
     let alloc = rt.alloc();
     let slot = value(alloc, 1_000_000_001, &[1, 480, 540])?;
-    let row = row(alloc, lesson(alloc, 31, slot, value(alloc, 3, &[30])?)?)?;
+    let room = value(alloc, 3, &[30])?;
+    let row = row(alloc, lesson(alloc, 31, slot, room)?)?;
     assert_eq!(rt; key_value(0, &row), 1_000_000_000);
     Ok(())
 }
 
+/// Rows, and which of the tests from 0 on they pass.
+const PASSED: [(Sketch, &[u16]); 6] = [
+    (Lessons(540), &[0, 1, 2]),
+    (Lessons(570), &[0, 1, 2]),
+    (Lessons(539), &[0, 1]),
+    (Lessons(571), &[0, 1]),
+    (Numbers(7), &[3]),
+    (Numbers(6), &[]),
+];
+
+fn expect_passed(rt: &impl Abort, row: &Row, wanted: &[u16]) {
+    for number in 0..5 {
+        assert_eq!(rt; test_value(number, row), wanted.contains(&number));
+    }
+}
+
 #[test]
 fn tests_answer(rt: HostRuntime) -> Result<(), Fail> {
-    let alloc = rt.alloc();
-    let rows = [
-        two_lessons(alloc, 540)?,
-        two_lessons(alloc, 570)?,
-        two_lessons(alloc, 539)?,
-        two_lessons(alloc, 571)?,
-        three_numbers(alloc, 7)?,
-        three_numbers(alloc, 6)?,
-    ];
-    let wanted = [
-        [true, true, true, false, false],
-        [true, true, true, false, false],
-        [true, true, false, false, false],
-        [true, true, false, false, false],
-        [false, false, false, true, false],
-        [false, false, false, false, false],
-    ];
-    for (row, wanted) in rows.iter().zip(wanted.iter()) {
-        for (number, wanted) in wanted.iter().enumerate() {
-            assert_eq!(rt; test_value(number as u16, row), *wanted);
-        }
+    for (sketch, wanted) in &PASSED {
+        expect_passed(&rt, &row_of(rt.alloc(), sketch)?, wanted);
     }
     Ok(())
 }
 
+/// Rows, and the weights that the weighers from 0 on give each.
+const WEIGHED: [(Sketch, [u32; 3]); 3] = [
+    (Lesson, [1, 0, 0]),
+    (Numbers(9), [0, 3, 0]),
+    (Numbers(20_000), [0, 10_000, 0]),
+];
+
+fn expect_weights(rt: &impl Abort, row: &Row, wanted: &[u32; 3]) {
+    for (number, wanted) in (0..3).zip(wanted.iter()) {
+        assert_eq!(rt; weight_value(number, row), *wanted);
+    }
+}
+
 #[test]
 fn weighers_answer(rt: HostRuntime) -> Result<(), Fail> {
-    let alloc = rt.alloc();
-    let rows = [
-        full_lesson(alloc)?,
-        three_numbers(alloc, 9)?,
-        three_numbers(alloc, 20_000)?,
-    ];
-    let wanted = [[1, 0, 0], [0, 3, 0], [0, 10_000, 0]];
-    for (row, wanted) in rows.iter().zip(wanted.iter()) {
-        for (number, wanted) in wanted.iter().enumerate() {
-            assert_eq!(rt; weight_value(number as u16, row), *wanted);
-        }
+    for (sketch, wanted) in &WEIGHED {
+        expect_weights(&rt, &row_of(rt.alloc(), sketch)?, wanted);
     }
     Ok(())
 }

@@ -136,140 +136,143 @@ fn one_variable_of_a_lesson_changes(rt: HostRuntime) -> Result<(), Fail> {
     expect(&rt, alloc, &schema, &plan, &[Selector::Change], cases)
 }
 
+/// Slots, rooms, and lessons of which some have no slot or no room.
+const SCHOOL: &[&[Sketch]] = &[
+    &[(26, &[]), (36, &[]), (38, &[])],
+    &[(1, &[]), (2, &[]), (3, &[])],
+    &[
+        (1, &[Some(36), Some(3)]),
+        (2, &[Some(36), Some(1)]),
+        (3, &[None, Some(2)]),
+        (4, &[Some(38), Some(2)]),
+        (5, &[None, None]),
+        (6, &[None, None]),
+        (7, &[Some(38), Some(2)]),
+        (8, &[Some(38), Some(2)]),
+        (9, &[Some(38), None]),
+    ],
+];
+
+const SWAPS: &[Case] = &[
+    (
+        FAR,
+        Some(&[
+            (2, 0, Some(38)),
+            (2, 1, None),
+            (9, 0, Some(36)),
+            (9, 1, Some(1)),
+        ]),
+    ),
+    (
+        NEAR,
+        Some(&[
+            (1, 0, None),
+            (1, 1, None),
+            (6, 0, Some(36)),
+            (6, 1, Some(3)),
+        ]),
+    ),
+    (TWICE, None),
+];
+
+const PILLAR_SWAPS: &[Case] = &[
+    (
+        FAR,
+        Some(&[
+            (1, 0, Some(38)),
+            (1, 1, Some(2)),
+            (4, 0, Some(36)),
+            (4, 1, Some(3)),
+            (7, 0, Some(36)),
+            (7, 1, Some(3)),
+            (8, 0, Some(36)),
+            (8, 1, Some(3)),
+        ]),
+    ),
+    (
+        NEAR,
+        Some(&[
+            (1, 0, Some(36)),
+            (1, 1, Some(1)),
+            (2, 0, Some(36)),
+            (2, 1, Some(3)),
+        ]),
+    ),
+    (TWICE, None),
+];
+
 #[test]
 fn lessons_and_pillars_of_lessons_swap(rt: HostRuntime) -> Result<(), Fail> {
     let alloc = rt.alloc();
     let schema = lessons(alloc)?;
-    let plan = plan_of(
-        alloc,
-        &schema,
-        &[
-            &[(26, &[]), (36, &[]), (38, &[])],
-            &[(1, &[]), (2, &[]), (3, &[])],
-            &[
-                (1, &[Some(36), Some(3)]),
-                (2, &[Some(36), Some(1)]),
-                (3, &[None, Some(2)]),
-                (4, &[Some(38), Some(2)]),
-                (5, &[None, None]),
-                (6, &[None, None]),
-                (7, &[Some(38), Some(2)]),
-                (8, &[Some(38), Some(2)]),
-                (9, &[Some(38), None]),
-            ],
-        ],
-    )?;
-    let swaps: &[Case] = &[
-        (
-            FAR,
-            Some(&[
-                (2, 0, Some(38)),
-                (2, 1, None),
-                (9, 0, Some(36)),
-                (9, 1, Some(1)),
-            ]),
-        ),
-        (
-            NEAR,
-            Some(&[
-                (1, 0, None),
-                (1, 1, None),
-                (6, 0, Some(36)),
-                (6, 1, Some(3)),
-            ]),
-        ),
-        (TWICE, None),
-    ];
-    expect(&rt, alloc, &schema, &plan, &[Selector::Swap], swaps)?;
-    let pillar_swaps: &[Case] = &[
-        (
-            FAR,
-            Some(&[
-                (1, 0, Some(38)),
-                (1, 1, Some(2)),
-                (4, 0, Some(36)),
-                (4, 1, Some(3)),
-                (7, 0, Some(36)),
-                (7, 1, Some(3)),
-                (8, 0, Some(36)),
-                (8, 1, Some(3)),
-            ]),
-        ),
-        (
-            NEAR,
-            Some(&[
-                (1, 0, Some(36)),
-                (1, 1, Some(1)),
-                (2, 0, Some(36)),
-                (2, 1, Some(3)),
-            ]),
-        ),
-        (TWICE, None),
-    ];
+    let plan = plan_of(alloc, &schema, SCHOOL)?;
+    expect(&rt, alloc, &schema, &plan, &[Selector::Swap], SWAPS)?;
     expect(
         &rt,
         alloc,
         &schema,
         &plan,
         &[Selector::PillarSwap],
-        pillar_swaps,
+        PILLAR_SWAPS,
     )
 }
+
+/// Employees, and shifts of which one has no worker.
+const WARD: &[&[Sketch]] = &[
+    &[(1, &[]), (2, &[])],
+    &[
+        (6, &[Some(1)]),
+        (10, &[Some(1)]),
+        (18, &[Some(1)]),
+        (25, &[Some(2)]),
+        (32, &[Some(1)]),
+        (38, &[None]),
+    ],
+];
+
+const SWAP_OR_PILLAR: &[Selector] = &[
+    Selector::Swap,
+    Selector::PillarChange,
+    Selector::Swap,
+    Selector::PillarChange,
+];
+
+/// Words that pick the one or the other.
+const PICKS: &[Case] = &[
+    (
+        [
+            1305573385, 3268878615, 2552055323, 98194512, 1714536640, 750721209, 3217129798,
+            3372912574,
+        ],
+        Some(&[(25, 0, Some(1))]),
+    ),
+    (
+        [
+            2070992122, 3746977884, 1454116646, 1520110881, 3101997295, 82337386, 344218180,
+            2611292624,
+        ],
+        Some(&[
+            (6, 0, Some(2)),
+            (10, 0, Some(2)),
+            (18, 0, Some(2)),
+            (32, 0, Some(2)),
+        ]),
+    ),
+    (
+        [
+            2814512272, 2074966623, 3967452325, 3176870237, 3183401454, 1782594468, 2144551957,
+            3652632160,
+        ],
+        Some(&[(32, 0, None), (38, 0, Some(1))]),
+    ),
+];
 
 #[test]
 fn the_first_word_picks_a_selector(rt: HostRuntime) -> Result<(), Fail> {
     let alloc = rt.alloc();
     let schema = shifts(alloc)?;
-    let plan = plan_of(
-        alloc,
-        &schema,
-        &[
-            &[(1, &[]), (2, &[])],
-            &[
-                (6, &[Some(1)]),
-                (10, &[Some(1)]),
-                (18, &[Some(1)]),
-                (25, &[Some(2)]),
-                (32, &[Some(1)]),
-                (38, &[None]),
-            ],
-        ],
-    )?;
-    let selectors = [
-        Selector::Swap,
-        Selector::PillarChange,
-        Selector::Swap,
-        Selector::PillarChange,
-    ];
-    let cases: &[Case] = &[
-        (
-            [
-                1305573385, 3268878615, 2552055323, 98194512, 1714536640, 750721209, 3217129798,
-                3372912574,
-            ],
-            Some(&[(25, 0, Some(1))]),
-        ),
-        (
-            [
-                2070992122, 3746977884, 1454116646, 1520110881, 3101997295, 82337386, 344218180,
-                2611292624,
-            ],
-            Some(&[
-                (6, 0, Some(2)),
-                (10, 0, Some(2)),
-                (18, 0, Some(2)),
-                (32, 0, Some(2)),
-            ]),
-        ),
-        (
-            [
-                2814512272, 2074966623, 3967452325, 3176870237, 3183401454, 1782594468, 2144551957,
-                3652632160,
-            ],
-            Some(&[(32, 0, None), (38, 0, Some(1))]),
-        ),
-    ];
-    expect(&rt, alloc, &schema, &plan, &selectors, cases)
+    let plan = plan_of(alloc, &schema, WARD)?;
+    expect(&rt, alloc, &schema, &plan, SWAP_OR_PILLAR, PICKS)
 }
 
 fn expect_none(

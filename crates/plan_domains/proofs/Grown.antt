@@ -1,5 +1,5 @@
 -- Lists with one more member at their end.
-use Rattle.std.proofs.Common.{◌≡◌, ℕ, zero, suc, List, [], ◌∷◌, ◌++◌, All, map, refl, arith}
+use Rattle.std.proofs.Common.{◌≡◌, zero, suc, List, [], ◌∷◌, ◌++◌, All, map, refl, arith}
 use Rattle.std.proofs.lemmas.List.{map-append}
 use Rattle.std.proofs.lemmas.List.Elements.{All-append}
 
@@ -7,9 +7,9 @@ all_one : {A : Type 0} (P : A → Type 0) (x : A) → P x → All P (x ∷ [])
 all_one P x here zero d within = here
 all_one P x here (suc k) d within = absurd (omega arith)
 
--- the numbers of two lists stay the same where each gets a member with one number
-pub same_numbers_grown : {A B : Type 0} (f : A → ℕ) (h : B → ℕ) (xs new : List A) (ys : List B) (x : A) (y : B) → map f xs ≡ map h ys → f x ≡ h y → new ≡ xs ++ x ∷ [] → map f new ≡ map h (ys ++ y ∷ [])
-same_numbers_grown f h xs new ys x y same number grown = rw (grown, map-append f xs (x ∷ []), map-append h ys (y ∷ []), same, number) refl
+-- what two lists are mapped to stays the same where each gets a member that is mapped to the same
+pub same_grown : {A B C : Type 0} (f : A → C) (h : B → C) (xs new : List A) (ys : List B) (x : A) (y : B) → map f xs ≡ map h ys → f x ≡ h y → new ≡ xs ++ x ∷ [] → map f new ≡ map h (ys ++ y ∷ [])
+same_grown f h xs new ys x y same one grown = rw (grown, map-append f xs (x ∷ []), map-append h ys (y ∷ []), same, one) refl
 
 -- what holds of each member of a list and of one more holds of each of the longer list
 pub all_grown : {A : Type 0} (P : A → Type 0) (xs new : List A) (x : A) → All P xs → P x → new ≡ xs ++ x ∷ [] → All P new

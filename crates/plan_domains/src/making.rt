@@ -2,6 +2,7 @@ ghost use Rattle.std.specs.Prelude.{◌≡◌, ◌≤◌, ℕ, ℤ, Bool, List, 
 ghost use Rattle.plan_rules.specs.declared.row.Part.{Part};
 ghost use Rattle.plan_rules.specs.Meaning.{IsKeyNumber};
 ghost use Rattle.plan_rules.specs.Faults.{rules_fault};
+ghost use Rattle.plan_rules.specs.Range.{Capped, cap_of};
 ghost use Rattle.plan_domains.specs.Meaning.{shipped_test, shipped_key, shipped_weight};
 ghost use denote.Ref.{Bor};
 
@@ -66,6 +67,7 @@ fn keys_of(alloc: Global, from: Vec<ShippedKey>) -> Result<List<Key<Shipped>>, M
 /// The weighers in their order, which keep their word.
 fn weighs_of(alloc: Global, from: Vec<ShippedWeigh>) -> Result<List<Weigh<Shipped>>, Memory>
     ensures numbers { IfOk result (λ weighs. map (λ weigher. weigher.number) weighs ≡ map (λ weigher. weigher.number) from.items) }
+    ensures caps { IfOk result (λ weighs. map {B = Capped} (λ weigher. record { number = weigher.number; cap = weigher.cap }) weighs ≡ map {B = Capped} (λ weigher. record { number = weigher.number; cap = weigher.cap }) from.items) }
     ensures keep { IfOk result (λ weighs. All (λ weigher. ⟦<Weigh<Shipped> as Kept>⟧.keeps weigher) weighs) }
 {
     let mut weighs = List::new(alloc);
@@ -87,6 +89,7 @@ pub fn shipped_rules_of(
     requires { rules_fault (length schema.now) (record { tests = map (λ test. test.number) tests.items; keys = map (λ key. key.number) keys.items; weighs = map (λ weigher. weigher.number) weighs.items }) defs ≡ None }
     ensures schema { IfOk result (λ rules. rules.schema ≡ schema.now) }
     ensures defs { IfOk result (λ rules. rules.defs ≡ defs) }
+    ensures caps { IfOk result (λ rules. rules.caps ≡ map (cap_of (map {B = Capped} (λ weigher. record { number = weigher.number; cap = weigher.cap }) weighs.items)) defs) }
     ensures keeps { IfOk result (λ rules. ⟦<Rules<Shipped> as Kept>⟧.keeps rules) }
 {
     let tests = tests_of(alloc, tests)?;
@@ -97,40 +100,4 @@ pub fn shipped_rules_of(
         Err(RuleFault::Memory) => Err(Memory),
         Err(_) => unreachable!(),
     }
-}
-
-/// Makes the rules of a shipped domain, named by its crate, with all its closures: a `Rules<Shipped>` over the given
-/// schema. It is written out in the caller's body, since a function that makes boxes can't hand them out; want of memory
-/// is answered by `?`. Its loops are named `tests`, `keys` and `weighers`.
-#[macro_export]
-macro_rules! shipped_rules {
-    ($alloc:expr, $domain:ident, $schema:expr) => {{
-        let mut tests = Vec::new($alloc);
-        'tests: for number in $domain::TESTS {
-            let body: $crate::TestBody = Box::new($alloc, move |row: &$crate::Row| -> bool {
-                $crate::shipped_test(number, row)
-            })
-            .map_err(|_| $crate::Memory)?;
-            tests.push($crate::ShippedTest { number, body }).map_err(|_| $crate::Memory)?;
-        }
-        let mut keys = Vec::new($alloc);
-        'keys: for number in $domain::KEYS {
-            let body: $crate::KeyBody = Box::new($alloc, move |row: &$crate::Row| -> i64 {
-                $crate::shipped_key(number, row)
-            })
-            .map_err(|_| $crate::Memory)?;
-            keys.push($crate::ShippedKey { number, body }).map_err(|_| $crate::Memory)?;
-        }
-        let mut weighers = Vec::new($alloc);
-        'weighers: for number in $domain::WEIGHERS {
-            let body: $crate::WeighBody = Box::new($alloc, move |row: &$crate::Row| -> u32 {
-                $crate::shipped_weight(number, row)
-            })
-            .map_err(|_| $crate::Memory)?;
-            let cap = $domain::CAP;
-            weighers.push($crate::ShippedWeigh { number, cap, body }).map_err(|_| $crate::Memory)?;
-        }
-        let defs = $domain::defs($alloc)?;
-        $crate::shipped_rules_of($alloc, $schema, defs, tests, keys, weighers)?
-    }};
 }

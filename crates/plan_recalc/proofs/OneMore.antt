@@ -1,10 +1,10 @@
 -- The matches and the score of all rules, one rule after the other.
-use Rattle.std.proofs.Common.{◌≡◌, ◌∙◌, ℕ, ◌+◌, ◌*◌, ◌<◌, ◌≤◌, ◌^◌, List, [], ◌∷◌, ◌++◌, None, map, take, drop, get_or, length, refl, ap, sym, subst, arith}
+use Rattle.std.proofs.Common.{◌≡◌, ◌∙◌, ℕ, ◌+◌, ◌*◌, ◌<◌, ◌≤◌, ◌^◌, List, [], ◌∷◌, ◌++◌, map, drop, get_or, length, ap, sym, subst, arith}
 use Rattle.std.specs.List.{flat_map}
-use Rattle.std.proofs.lemmas.List.{drop_more, drop_all, get_or-map, length-map, append_assoc, append-nil}
+use Rattle.std.proofs.lemmas.List.{drop_more, drop_all, get_or-map, append_assoc, append-nil}
 use Rattle.std.proofs.lemmas.List.Sums.{sum_by-cons}
 use Rattle.plan_scores.specs.declared.score.Score.{Score}
-use Rattle.plan_scores.specs.Sum.{add_scores, sum_of, zero_score, IsWithin}
+use Rattle.plan_scores.specs.Sum.{add_scores, sum_of, IsWithin}
 use Rattle.plan_scores.proofs.Summed.{sum_of-append, add_scores_assoc, add_scores-zero, IsWithin-add_scores}
 use Rattle.plan_rules.specs.declared.row.Match.{Match}
 use Rattle.plan_rules.specs.declared.rule.RuleDef.{RuleDef}

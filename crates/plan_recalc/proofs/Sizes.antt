@@ -1,7 +1,5 @@
 -- How great impacts and their sums are.
-use Rattle.std.proofs.Common.{◌≡◌, ◌∙◌, ℕ, zero, suc, ◌+◌, ◌*◌, ◌<◌, ◌≤◌, ◌^◌, Bool, true, false, List, [], ◌∷◌, ◌++◌, map, take, get_or, length, pos, neg_ℤ, refl, ap, sym, subst, arith, if◌then◌else◌}
-use Rattle.std.specs.Prelude.{sum_by}
-use Rattle.std.proofs.lemmas.Int.{ints}
+use Rattle.std.proofs.Common.{◌≡◌, ◌∙◌, ℕ, zero, suc, ◌+◌, ◌*◌, ◌<◌, ◌≤◌, ◌^◌, Bool, true, false, List, [], ◌∷◌, ◌++◌, map, take, get_or, length, pos, neg_ℤ, ap, subst, arith, if◌then◌else◌}
 use Rattle.std.proofs.lemmas.List.{map_more}
 use Rattle.std.proofs.lemmas.List.Sums.{sum_by-take-le, sum_by_push}
 use Rattle.std.proofs.Math.Nat.{mul-le-mul_left, mul-le-mul_right}
@@ -14,7 +12,7 @@ use Rattle.plan_rules.specs.declared.row.Match.{Match}
 use Rattle.plan_rules.specs.declared.row.Part.{Part}
 use Rattle.plan_rules.specs.declared.rule.RuleDef.{RuleDef}
 use Rattle.plan_rules.specs.Meaning.{Meaning}
-use Rattle.plan_rules.specs.Totals.{impact_of, impact_sum, match_weight, signed}
+use Rattle.plan_rules.specs.Totals.{impact_of, impact_sum, match_weight}
 use Rattle.plan_recalc.specs.Size.{score_size, impact_sizes}
 
 signed_size : (reward : Bool) (level : Level) (n : ℕ) → score_size (score_at level (if reward then pos n else neg_ℤ (pos n))) ≡ n

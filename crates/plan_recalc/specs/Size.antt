@@ -1,7 +1,6 @@
 -- How great scores are.
-use Rattle.std.specs.Prelude.{◌+◌, ℕ, List, map, sum_by, unsigned_abs}
+use Rattle.std.specs.Prelude.{◌+◌, ℕ, List, sum_by, unsigned_abs}
 use Rattle.plan_scores.specs.declared.score.Score.{Score}
-use Rattle.plan_rules.specs.declared.rule.RuleDef.{RuleDef}
 use Rattle.plan_rules.specs.declared.row.Match.{Match}
 
 -- the three numbers of a score without their signs, added up

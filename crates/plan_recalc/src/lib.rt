@@ -8,3 +8,6 @@ mod matches;
 
 pub use alone::{score_alone, totals_alone};
 pub use calculator::{Totals, recalc, score};
+
+#[cfg(test)]
+mod tests;

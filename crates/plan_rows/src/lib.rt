@@ -16,3 +16,6 @@ pub use ask::{key_of, test_of, weight_of};
 pub use facts::Facts;
 pub use single::Single;
 pub use stream::rule_rows;
+
+#[cfg(test)]
+mod tests;

@@ -19,3 +19,6 @@ pub use row::{Delta, Match, Part, Row};
 pub use rule::{Collect, Head, Joiner, Named, Node, RuleDef};
 pub use rules::Rules;
 pub use steps::Steps;
+
+#[cfg(test)]
+mod tests;

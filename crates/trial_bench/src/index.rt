@@ -91,30 +91,12 @@ pub fn drive<R: Print + Eprint + Clock>(
     report(rt, times, "index look-up of ten", size, start)?;
     let start = Instant::now(rt)?;
     try_out(&mut index, size, rounds).map_err(|_| no_memory())?;
-    report(
-        rt,
-        times,
-        "index trial of three calls, of many",
-        rounds,
-        start,
-    )?;
+    report(rt, times, "index trial of three, of many", rounds, start)?;
     let start = Instant::now(rt)?;
     renew(&mut index, size, size).map_err(|_| no_memory())?;
-    report(
-        rt,
-        times,
-        "index put and kill after the trials",
-        size,
-        start,
-    )?;
+    report(rt, times, "index put and kill, after trials", size, start)?;
     let start = Instant::now(rt)?;
     let again = look_up(&index, &mut into, size, size).map_err(|_| no_memory())?;
-    report(
-        rt,
-        times,
-        "index look-up of ten after the trials",
-        size,
-        start,
-    )?;
+    report(rt, times, "index look-up, after trials", size, start)?;
     rt.println(format_args!("index of {size}: look-ups give {hits}, and {again} after the trials"))
 }

@@ -98,13 +98,7 @@ pub fn drive<R: Print + Eprint + Clock>(
     report(rt, times, "store trial of four calls", 1000, start)?;
     let start = Instant::now(rt)?;
     try_out(&mut store, size, rounds).map_err(|_| no_memory())?;
-    report(
-        rt,
-        times,
-        "store trial of four calls, of many",
-        rounds,
-        start,
-    )?;
+    report(rt, times, "store trial of four, of many", rounds, start)?;
     let start = Instant::now(rt)?;
     renew(&mut store, size).map_err(|_| no_memory())?;
     report(rt, times, "store kill or add after the trials", size, start)?;
@@ -113,12 +107,6 @@ pub fn drive<R: Print + Eprint + Clock>(
     report(rt, times, "store next", size, start)?;
     let start = Instant::now(rt)?;
     let left = thin_out(&mut store, size);
-    report(
-        rt,
-        times,
-        "store kill of all but one, and a walk",
-        size,
-        start,
-    )?;
+    report(rt, times, "store kills and a walk", size, start)?;
     rt.println(format_args!("store of {size}: a walk meets {met}, and {left} where one is left"))
 }

@@ -1,13 +1,15 @@
-use Rattle.std.proofs.Common.{◌≡◌, ◌≤◌, ℕ, List}
+use Rattle.std.proofs.Common.{◌≡◌, ◌≤◌, ℕ, List, refl}
 use Rattle.plan_rules.specs.declared.row.Part.{Part}
+use Rattle.plan_rules.specs.Range.{Capped}
 use Rattle.plan_domains.specs.Meaning.{shipped_weight}
 use denote.Ref.{Bor}
-use Rattle.plan_domains.proofs.Grown.{same_numbers_grown, all_grown}
+use Rattle.plan_domains.proofs.Grown.{same_grown, all_grown}
 use Rattle.plan_domains.proofs.making.weighs_of.Goals as goal
 
 pub loop-shipped-preserved : goal.loop-shipped-preserved
 loop-shipped-preserved g c = (
-  same_numbers_grown (λ one. one.number) (λ one. one.number) c.loop-shipped.weighs c.push.new.self c.loop-shipped.yielded c.new.result c.in-Some.shipped c.loop-shipped.invariant.0 c.new.ensures.number c.in_ok-push.ensures.ok,
-  all_grown (λ one. (r : Bor (List Part)) (answer : ℕ) → (goal.Fn-dyn g).post (one.body.vtable, one.body.value) (r, tt) answer → (answer ≡ shipped_weight one.number r.now) × (answer ≤ one.cap)) c.loop-shipped.weighs c.push.new.self c.new.result c.loop-shipped.invariant.1
+  same_grown (λ one. one.number) (λ one. one.number) c.loop-shipped.weighs c.push.new.self c.loop-shipped.yielded c.new.result c.in-Some.shipped c.loop-shipped.invariant.0 c.new.ensures.number c.in_ok-push.ensures.ok,
+  same_grown {C = Capped} (λ one. record { number = one.number; cap = one.cap }) (λ one. record { number = one.number; cap = one.cap }) c.loop-shipped.weighs c.push.new.self c.loop-shipped.yielded c.new.result c.in-Some.shipped c.loop-shipped.invariant.1 (rw (c.new.ensures.number, c.new.ensures.cap) refl) c.in_ok-push.ensures.ok,
+  all_grown (λ one. (r : Bor (List Part)) (answer : ℕ) → (goal.Fn-dyn g).post (one.body.vtable, one.body.value) (r, tt) answer → (answer ≡ shipped_weight one.number r.now) × (answer ≤ one.cap)) c.loop-shipped.weighs c.push.new.self c.new.result c.loop-shipped.invariant.2
       (λ r answer post. rw (c.new.ensures.number, c.new.ensures.cap) (c.in-Some.shipped.answers r answer (rw c.new.ensures.body at post))) c.in_ok-push.ensures.ok,
 )

@@ -1,20 +1,19 @@
-use Rattle.std.proofs.Common.{◌≡◌, ◌∙◌, ◌+◌, ◌++◌, ◌<◌, ◌≤◌, ℕ, List, drop, get_or, length, refl, ap, sym, subst, arith}
+use Rattle.std.proofs.Common.{◌≡◌, ◌∙◌, ◌+◌, ◌<◌, ◌≤◌, ℕ, List, drop, get_or, length, refl, ap, sym, subst, arith}
 use Rattle.std.proofs.lemmas.List.{length-map}
 use Rattle.plan_facts.specs.Plan.{records_of}
 use Rattle.plan_scores.specs.declared.score.Score.{Score}
 use Rattle.plan_scores.specs.Sum.{add_scores, FitsScore}
 use Rattle.plan_rules.specs.declared.rule.RuleDef.{RuleDef}
-use Rattle.plan_rules.specs.declared.row.Match.{Match}
 use Rattle.plan_rules.specs.Rows.{Facts}
 use Rattle.plan_rules.specs.Range.{has_too_many_rows, sizes_of}
 use Rattle.plan_rules.specs.Sound.{IsSound}
-use Rattle.plan_rules.specs.Totals.{all_matches, matches_of, impact_sum, score_of}
+use Rattle.plan_rules.specs.Totals.{matches_of, impact_sum, score_of}
 use Rattle.plan_rules.proofs.Accepted.{sound_rules}
 use Rattle.plan_rules.proofs.Lengths.{few_rows_in_range}
 use Rattle.plan_rows.specs.Facts.{sizes_in}
 use Rattle.plan_recalc.specs.Size.{impact_sizes}
 use Rattle.plan_recalc.proofs.Sizes.{fits_within}
-use Rattle.plan_recalc.proofs.OneMore.{LeavesRoom, bound_at, matches_more, score_more, score_end, sizes_within_bound, small_impacts, room_after}
+use Rattle.plan_recalc.proofs.OneMore.{LeavesRoom, bound_at, score_more, score_end, sizes_within_bound, small_impacts, room_after}
 use Rattle.plan_recalc.proofs.calculator.score.Goals as goal
 
 pub rule_matches-requires-clause-sound : goal.rule_matches-requires-clause-sound

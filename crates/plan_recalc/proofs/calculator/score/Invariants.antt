@@ -1,8 +1,8 @@
-use Rattle.std.proofs.Common.{◌≡◌, ◌++◌, drop}
+use Rattle.std.proofs.Common.{◌≡◌, drop}
 use Rattle.plan_facts.specs.Plan.{records_of}
 use Rattle.plan_scores.specs.Sum.{add_scores}
 use Rattle.plan_rules.specs.Range.{sizes_of}
-use Rattle.plan_rules.specs.Totals.{all_matches, score_of}
+use Rattle.plan_rules.specs.Totals.{score_of}
 use Rattle.plan_recalc.proofs.OneMore.{LeavesRoom}
 use Rattle.plan_recalc.proofs.calculator.score.Given as goal
 

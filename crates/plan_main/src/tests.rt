@@ -1,0 +1,377 @@
+ghost use Rattle.std.specs.Prelude.{All, IfOk};
+ghost use Rattle.std.specs.Thread.{IsSync};
+
+use super::*;
+use crate::tables::*;
+use plan_domains::{Row, TestBody, WeighBody, shipped_test, shipped_weight};
+use plan_facts::{List, is_name};
+use plan_ports::{MemFile, MemShelf, MemSink};
+use plan_rules::{Kept, Rules, Test, Weigh};
+use std::process::Abort;
+use std::test::Fail;
+
+/// All bytes of some parts, one after the other.
+fn joined(alloc: Global, parts: &[&[u8]]) -> Result<Vec<u8>, Memory> {
+    let mut whole = Vec::new(alloc);
+    for part in parts {
+        whole.extend_from_slice(part)?;
+    }
+    Ok(whole)
+}
+
+/// A run over memory: the words, the bytes of the file `p`, the opens and the puts that fail, and how many bytes a put takes.
+#[derive(Drop)]
+struct Asked {
+    words: &'static [&'static str],
+    problem: Vec<u8>,
+    opens: &'static [u32],
+    puts: Vec<u32>,
+    most: usize,
+}
+
+/// What a run wrote, and how it ended.
+#[derive(Drop)]
+struct Outcome {
+    text: Vec<u8>,
+    status: Status,
+}
+
+/// `solve` of a problem, over a sink that takes what it is given.
+fn solved(alloc: Global, problem: Vec<u8>) -> Asked {
+    Asked {
+        words: &["solve", "p"],
+        problem,
+        opens: &[],
+        puts: Vec::new(alloc),
+        most: 1000,
+    }
+}
+
+fn words_in(alloc: Global, texts: &[&str]) -> Result<Vec<Text>, Memory> {
+    let mut words = Vec::new(alloc);
+    for text in texts {
+        words.push(Text::from_slice(alloc, text.as_bytes())?)?;
+    }
+    Ok(words)
+}
+
+/// A shelf on which these bytes stand under the name `p`, and whose opens of these numbers fail.
+fn shelf_of(alloc: Global, bytes: &[u8], fail: &[u32]) -> Result<MemShelf, Memory> {
+    let mut files = Vec::new(alloc);
+    files.push(MemFile {
+        name: Vec::from_slice(alloc, b"p")?,
+        bytes: Vec::from_slice(alloc, bytes)?,
+        most: 50,
+        fail: Vec::new(alloc),
+    })?;
+    Ok(MemShelf::new(alloc, files, Vec::from_slice(alloc, fail)?))
+}
+
+fn run_one<T: Threads + Wait + Sync>(
+    threads: &T,
+    alloc: Global,
+    asked: &Asked,
+    domains: &[Domain<Shipped>],
+) -> Result<Outcome, Memory>
+    requires keeps { All (λ domain. ⟦<Rules<Shipped> as Kept>⟧.keeps domain.rules) domains.now }
+{
+    let words = words_in(alloc, asked.words)?;
+    let mut shelf = shelf_of(alloc, &asked.problem, asked.opens)?;
+    let mut out = MemSink::new(
+        alloc,
+        asked.most.max(1),
+        Vec::from_slice(alloc, &asked.puts)?,
+    );
+    let status = run(
+        threads, alloc, &words, &mut shelf, &mut out, &NoGate, domains,
+    );
+    Ok(Outcome {
+        text: Vec::from_slice(alloc, out.text())?,
+        status,
+    })
+}
+
+fn run_each<T: Threads + Wait + Sync>(
+    threads: &T,
+    alloc: Global,
+    asked: &[Asked],
+    domains: &[Domain<Shipped>],
+) -> Result<Vec<Outcome>, Memory>
+    requires keeps { All (λ domain. ⟦<Rules<Shipped> as Kept>⟧.keeps domain.rules) domains.now }
+{
+    let mut outcomes = Vec::new(alloc);
+    for one in asked {
+        outcomes.push(run_one(threads, alloc, one, domains)?)?;
+    }
+    Ok(outcomes)
+}
+
+/// Runs in the domains that come with the solver.
+#[derive(Drop)]
+struct Runs<'a, T> {
+    threads: &'a T,
+    alloc: Global,
+    asked: Vec<Asked>,
+}
+
+impl<'a, T: Threads + Wait + Sync> Act for Runs<'a, T> {
+    type Answer = Result<Vec<Outcome>, Memory>;
+
+    // The threads may be shared.
+    ghost is_ready = { λ _. IsSync T.row };
+
+    ghost answers = { λ _ _ _. Unit };
+
+    fn act(self, domains: &[Domain<Shipped>]) -> Result<Vec<Outcome>, Memory> {
+        run_each(self.threads, self.alloc, &self.asked, domains)
+    }
+}
+
+fn outcomes<T: Threads + Wait + Sync>(
+    threads: &T,
+    alloc: Global,
+    asked: Vec<Asked>,
+) -> Result<Vec<Outcome>, Memory> {
+    let runs = Runs {
+        threads,
+        alloc,
+        asked,
+    };
+    with_shipped_domains(alloc, runs)?
+}
+
+fn expect(rt: &impl Abort, outcome: &Outcome, text: &[u8], status: Status) {
+    assert_eq!(rt; outcome.text.as_slice(), text);
+    assert_eq!(rt; outcome.status, status);
+}
+
+fn asked_rows(alloc: Global) -> Result<Vec<Asked>, Memory> {
+    let mut asked = Vec::new(alloc);
+    for case in ROWS {
+        asked.push(Asked {
+            words: case.words,
+            problem: joined(alloc, case.problem)?,
+            opens: case.opens,
+            puts: Vec::from_slice(alloc, case.puts)?,
+            most: 1000,
+        })?;
+    }
+    Ok(asked)
+}
+
+#[test]
+fn runs_print_what_was_worked_by_hand(rt: HostRuntime) -> Result<(), Fail> {
+    let alloc = rt.alloc();
+    let outcomes = outcomes(&rt, alloc, asked_rows(alloc)?)?;
+    assert_eq!(rt; outcomes.len(), ROWS.len());
+    for (outcome, case) in outcomes.iter().zip(ROWS) {
+        expect(&rt, outcome, &joined(alloc, case.text)?, case.status);
+    }
+    Ok(())
+}
+
+fn asked_refused(alloc: Global) -> Result<Vec<Asked>, Memory> {
+    let mut asked = Vec::new(alloc);
+    for (problem, _) in REFUSED {
+        asked.push(solved(alloc, joined(alloc, problem)?))?;
+    }
+    Ok(asked)
+}
+
+#[test]
+fn refused_problems_name_their_first_fault(rt: HostRuntime) -> Result<(), Fail> {
+    let alloc = rt.alloc();
+    let outcomes = outcomes(&rt, alloc, asked_refused(alloc)?)?;
+    assert_eq!(rt; outcomes.len(), REFUSED.len());
+    for (outcome, (_, cause)) in outcomes.iter().zip(REFUSED) {
+        let line = joined(alloc, &[b"refused problem ", cause, b"\n"])?;
+        expect(&rt, outcome, &line, Status::Problem);
+    }
+    Ok(())
+}
+
+/// Writes the digits of an id, from 100,001 on.
+fn push_id(out: &mut Vec<u8>, place: u32) -> Result<(), Memory> {
+    out.push(b'1')?;
+    for unit in [10000, 1000, 100, 10, 1] {
+        out.push(b"0123456789"[(place / unit % 10) as usize])?;
+    }
+    Ok(())
+}
+
+/// Writes so many records, with one further member each.
+fn push_records(out: &mut Vec<u8>, count: u32, member: &[u8]) -> Result<(), Memory> {
+    let mut comma: &[u8] = b"";
+    for place in 0..count {
+        out.extend_from_slice(comma)?;
+        out.extend_from_slice(b"{\"id\":")?;
+        push_id(out, place)?;
+        out.extend_from_slice(member)?;
+        comma = COMMA;
+    }
+    Ok(())
+}
+
+/// A problem of so many timeslots and rooms, and no lesson.
+fn wide_problem(alloc: Global, slots: u32, rooms: u32) -> Result<Vec<u8>, Memory> {
+    let mut out = Vec::from_slice(alloc, HEAD)?;
+    push_records(&mut out, slots, b",\"day\":1,\"start\":480,\"end\":540}")?;
+    out.extend_from_slice(ROOMS)?;
+    push_records(&mut out, rooms, b",\"capacity\":30}")?;
+    out.extend_from_slice(LESSONS)?;
+    out.extend_from_slice(TAIL)?;
+    Ok(out)
+}
+
+/// So many timeslots and rooms, what is written of them, and the status.
+const WIDE: &[(u32, u32, &[&[u8]], Status)] = &[
+    (
+        0,
+        20_000,
+        &[
+            b"run timetable\nleg 0\nstart 0hard/0medium/0soft\nbest 0hard/0medium/0soft\n",
+            ZEROS,
+            END,
+        ],
+        Status::Ok,
+    ),
+    (
+        0,
+        20_001,
+        &[b"refused problem too_many_facts\n"],
+        Status::Problem,
+    ),
+    (
+        300,
+        300,
+        &[b"refused problem range_product lesson\n"],
+        Status::Problem,
+    ),
+];
+
+fn asked_wide(alloc: Global) -> Result<Vec<Asked>, Memory> {
+    let mut asked = Vec::new(alloc);
+    for (slots, rooms, _, _) in WIDE {
+        asked.push(solved(alloc, wide_problem(alloc, *slots, *rooms)?))?;
+    }
+    Ok(asked)
+}
+
+#[test]
+fn wide_problems_keep_the_limits(rt: HostRuntime) -> Result<(), Fail> {
+    let alloc = rt.alloc();
+    let outcomes = outcomes(&rt, alloc, asked_wide(alloc)?)?;
+    assert_eq!(rt; outcomes.len(), WIDE.len());
+    for (outcome, (_, _, text, status)) in outcomes.iter().zip(WIDE) {
+        expect(&rt, outcome, &joined(alloc, text)?, *status);
+    }
+    Ok(())
+}
+
+/// How many puts of 7 bytes the text of two lessons that clash takes.
+const PUTS: u32 = 92;
+
+/// Two lessons that clash, over a sink that takes 7 bytes in each put and fails at one of them.
+fn asked_failing(alloc: Global) -> Result<Vec<Asked>, Memory> {
+    let mut asked = Vec::new(alloc);
+    for put in 0..PUTS {
+        let mut failing = solved(alloc, joined(alloc, ROWS[1].problem)?);
+        failing.puts.push(put)?;
+        failing.most = 7;
+        asked.push(failing)?;
+    }
+    Ok(asked)
+}
+
+#[test]
+fn a_failing_put_leaves_a_front(rt: HostRuntime) -> Result<(), Fail> {
+    let alloc = rt.alloc();
+    let text = joined(alloc, ROWS[1].text)?;
+    let outcomes = outcomes(&rt, alloc, asked_failing(alloc)?)?;
+    assert_eq!(rt; outcomes.len(), PUTS as usize);
+    for (place, outcome) in outcomes.iter().enumerate() {
+        assert!(rt; text.starts_with(&outcome.text));
+        assert_eq!(rt; outcome.text.len(), place.saturating_mul(7));
+        assert_eq!(rt; outcome.status, Status::Write);
+    }
+    Ok(())
+}
+
+fn one_test(alloc: Global, test: Test<Shipped>) -> Result<List<Test<Shipped>>, Memory>
+    requires { ⟦<Test<Shipped> as Kept>⟧.keeps test }
+    ensures { IfOk result (λ tests. All (λ test. ⟦<Test<Shipped> as Kept>⟧.keeps test) tests) }
+{
+    let mut tests = List::new(alloc);
+    tests.push(test)?;
+    Ok(tests)
+}
+
+fn one_weigher(alloc: Global, weigher: Weigh<Shipped>) -> Result<List<Weigh<Shipped>>, Memory>
+    requires { ⟦<Weigh<Shipped> as Kept>⟧.keeps weigher }
+    ensures { IfOk result (λ weighers. All (λ weigher. ⟦<Weigh<Shipped> as Kept>⟧.keeps weigher) weighers) }
+{
+    let mut weighers = List::new(alloc);
+    weighers.push(weigher)?;
+    Ok(weighers)
+}
+
+/// The timetable with one rule alone, that rooms are large enough.
+fn room_size_alone(
+    alloc: Global,
+    tests: List<Test<Shipped>>,
+    weighers: List<Weigh<Shipped>>,
+) -> Result<Domain<Shipped>, Fail>
+    requires tests_keep { All (λ test. ⟦<Test<Shipped> as Kept>⟧.keeps test) tests }
+    requires weighers_keep { All (λ weigher. ⟦<Weigh<Shipped> as Kept>⟧.keeps weigher) weighers }
+    ensures keeps { IfOk result (λ domain. ⟦<Rules<Shipped> as Kept>⟧.keeps domain.rules) }
+{
+    let name = Text::from_slice(alloc, b"timetable")?;
+    if !is_name(name.as_slice()) {
+        return Err("no name".into());
+    }
+    let mut all = domain_timetable::defs(alloc)?;
+    for _ in 0..5 {
+        all.pop();
+    }
+    let mut defs = List::new(alloc);
+    defs.push(all.pop().ok_or("no such rule")?)?;
+    let schema = domain_timetable::schema(alloc)?;
+    let rules = Rules::build(alloc, &schema, defs, tests, List::new(alloc), weighers)?;
+    Ok(Domain::new(name, schema, rules, Vec::new(alloc)))
+}
+
+/// Two timeslots, a room that is too small for a lesson, a room that isn't, and two lessons.
+const ROOM_TOO_SMALL: &[&[u8]] = &[
+    HEAD,
+    S1,
+    COMMA,
+    S2,
+    ROOMS,
+    b"{\"id\":1,\"capacity\":10},{\"id\":2,\"capacity\":30}",
+    LESSONS,
+    A,
+    COMMA,
+    B,
+    TAIL,
+];
+
+/// How they are placed where nothing but the size of rooms counts.
+const PLACED_BY_SIZE: &[u8] =
+    b"run timetable\nleg 0\nplace lesson#1 slot=1 room=2 -2init/0hard/0medium/0soft\nplace lesson#2 slot=1 room=2 0hard/0medium/0soft\nstart 0hard/0medium/0soft\nbest 0hard/0medium/0soft\nlesson#1 slot=1 room=2\nlesson#2 slot=1 room=2\nrule room_size 0 0hard/0medium/0soft\nend\n";
+
+#[test]
+fn a_rule_may_stand_alone(rt: HostRuntime) -> Result<(), Fail> {
+    let alloc = rt.alloc();
+    let is_small: TestBody = Box::new(alloc, |row: &Row| -> bool { shipped_test(0, row) })?;
+    let seats: WeighBody = Box::new(alloc, |row: &Row| -> u32 { shipped_weight(0, row) })?;
+    let tests = one_test(alloc, Test::new(0, is_small))?;
+    let weighers = one_weigher(alloc, Weigh::new(0, 10_000, seats))?;
+    let domains = [room_size_alone(alloc, tests, weighers)?];
+    let mut asked = solved(alloc, joined(alloc, ROOM_TOO_SMALL)?);
+    let placed = run_one(&rt, alloc, &asked, &domains)?;
+    expect(&rt, &placed, PLACED_BY_SIZE, Status::Ok);
+    asked.puts.push(0)?;
+    let failed = run_one(&rt, alloc, &asked, &domains)?;
+    expect(&rt, &failed, b"", Status::Write);
+    Ok(())
+}

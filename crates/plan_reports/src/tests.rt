@@ -69,49 +69,62 @@ fn lesson(alloc: Global, id: u32) -> Part {
     })
 }
 
-/// One line of each kind, as a run over lessons 1 and 2 in one room prints them.
-fn lines(alloc: Global) -> Result<List<Line>, Memory> {
-    let placed = PlanScore {
+fn placed() -> PlanScore {
+    PlanScore {
         unplaced: 0,
         score: hard(-1),
-    };
-    let unplaced = PlanScore {
+    }
+}
+
+fn unplaced() -> PlanScore {
+    PlanScore {
         unplaced: 2,
         score: hard(0),
-    };
-    let mut row = Row::new(alloc);
-    row.push(lesson(alloc, 1))?;
-    row.push(Part::Num(-7))?;
-    let mut lines = List::new(alloc);
-    lines.push(Line::Run {
-        domain: text(alloc, "timetable")?,
-    })?;
+    }
+}
+
+fn push_placing(alloc: Global, lines: &mut List<Line>) -> Result<(), Memory> {
     lines.push(Line::Leg { boundary: 0 })?;
     lines.push(Line::Place {
         class: 2,
         id: 1,
         values: List::from_slice(alloc, &[Some(1), Some(2)])?,
-        score: unplaced,
+        score: unplaced(),
     })?;
     lines.push(Line::Stuck { class: 2, id: 2 })?;
-    lines.push(Line::Start(placed))?;
-    lines.push(Line::Best(placed))?;
+    lines.push(Line::Start(placed()))
+}
+
+fn push_best(alloc: Global, lines: &mut List<Line>) -> Result<(), Memory> {
+    let mut row = Row::new(alloc);
+    row.push(lesson(alloc, 1))?;
+    row.push(Part::Num(-7))?;
+    let impact = hard(-1);
+    let values = List::from_slice(alloc, &[None, Some(1)])?;
+    lines.push(Line::Best(placed()))?;
     lines.push(Line::Entity {
         class: 2,
         id: 2,
-        values: List::from_slice(alloc, &[None, Some(1)])?,
+        values,
     })?;
     lines.push(Line::Rule {
         rule: 0,
         count: 1,
-        impact: hard(-1),
+        impact,
     })?;
-    lines.push(Line::Match {
-        impact: hard(-1),
-        row,
+    lines.push(Line::Match { impact, row })?;
+    lines.push(Line::End)
+}
+
+/// One line of each kind, as a run over lessons 1 and 2 in one room prints them.
+fn lines(alloc: Global) -> Result<List<Line>, Memory> {
+    let mut lines = List::new(alloc);
+    lines.push(Line::Run {
+        domain: text(alloc, "timetable")?,
     })?;
-    lines.push(Line::End)?;
-    lines.push(Line::Total(unplaced))?;
+    push_placing(alloc, &mut lines)?;
+    push_best(alloc, &mut lines)?;
+    lines.push(Line::Total(unplaced()))?;
     Ok(lines)
 }
 

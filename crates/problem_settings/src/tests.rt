@@ -170,7 +170,7 @@ const TOLD: &[u8] =
     b"{\"seed\":18446744073709551615,\"steps\":0,\"select_limit\":2,\"accepted_limit\":3,\"pick_early\":\"last\",\"acceptor\":\"step_count\",\"late_size\":4,\"tabu_size\":5,\"step_count_size\":10000,\"selectors\":[\"pillar_swap\",\"own\",\"pillar_change\",\"own\"]}";
 
 #[test]
-fn reads_settings(rt: HostRuntime) -> Result<(), Fail> {
+fn settings_have_usual_values(rt: HostRuntime) -> Result<(), Fail> {
     let usual = read_settings(rt.alloc(), None)?;
     assert_eq!(rt;
         (
@@ -193,6 +193,11 @@ fn reads_settings(rt: HostRuntime) -> Result<(), Fail> {
         usual.selectors.as_slice(),
         [Selector::Change, Selector::Swap].as_slice()
     );
+    Ok(())
+}
+
+#[test]
+fn reads_settings(rt: HostRuntime) -> Result<(), Fail> {
     let value = read_value(rt.alloc(), TOLD)?;
     let read = read_settings(rt.alloc(), Some(&value))?;
     assert_eq!(rt;

@@ -54,67 +54,69 @@ fn path_in(alloc: Global, schema: &Schema, facts: &str) -> Result<String, Fail> 
     Ok(String::from_str(alloc, path)?)
 }
 
+/// Facts, and the path to the first thing of another shape; `fits` where there is none.
+const CASES: &[(&str, &str)] = &[
+    ("{}", "fits"),
+    ("{\"lesson\":[],\"room\":[]}", "fits"),
+    ("{\"room\":[{\"id\":1,\"capacity\":-7}]}", "fits"),
+    ("{\"room\":{}}", "/facts/room"),
+    ("{\"room\":[[]]}", "/facts/room/0"),
+    ("{\"room\":[{\"capacity\":1}]}", "/facts/room/0/id"),
+    ("{\"room\":[{\"id\":0,\"capacity\":1}]}", "/facts/room/0/id"),
+    (
+        "{\"room\":[{\"id\":1000000001,\"capacity\":1}]}",
+        "/facts/room/0/id",
+    ),
+    (
+        "{\"room\":[{\"id\":1.0,\"capacity\":1}]}",
+        "/facts/room/0/id",
+    ),
+    (
+        "{\"room\":[{\"id\":1000000000,\"capacity\":1},{\"id\":2}]}",
+        "/facts/room/1/capacity",
+    ),
+    (
+        "{\"room\":[{\"id\":1,\"capacity\":\"x\"}]}",
+        "/facts/room/0/capacity",
+    ),
+    (
+        "{\"room\":[{\"id\":1,\"capacity\":1,\"x\":1}]}",
+        "/facts/room/0",
+    ),
+    ("{\"rum\":[]}", "/facts"),
+    ("{\"rum\":[],\"room\":[{\"x\":1}]}", "/facts/room/0/id"),
+    (
+        "{\"lesson\":[{\"id\":1,\"subject\":\"s\"}]}",
+        "/facts/lesson/0/size",
+    ),
+    (
+        "{\"lesson\":[{\"id\":1,\"subject\":2,\"size\":2}]}",
+        "/facts/lesson/0/subject",
+    ),
+    (
+        "{\"lesson\":[{\"id\":1,\"subject\":\"\",\"size\":2,\"room\":null}]}",
+        "fits",
+    ),
+    (
+        "{\"lesson\":[{\"id\":1,\"subject\":\"s\",\"size\":2,\"room\":9}]}",
+        "fits",
+    ),
+    (
+        "{\"lesson\":[{\"id\":1,\"subject\":\"s\",\"size\":2,\"room\":0}]}",
+        "/facts/lesson/0/room",
+    ),
+    (
+        "{\"lesson\":[{\"id\":1,\"subject\":\"s\",\"size\":2,\"room\":\"r\"}]}",
+        "/facts/lesson/0/room",
+    ),
+];
+
 #[test]
 fn names_the_first_thing_of_another_shape(rt: HostRuntime) -> Result<(), Fail> {
     let schema = lessons(rt.alloc())?;
-    let cases = [
-        ("{}", "fits"),
-        ("{\"lesson\":[],\"room\":[]}", "fits"),
-        ("{\"room\":[{\"id\":1,\"capacity\":-7}]}", "fits"),
-        ("{\"room\":{}}", "/facts/room"),
-        ("{\"room\":[[]]}", "/facts/room/0"),
-        ("{\"room\":[{\"capacity\":1}]}", "/facts/room/0/id"),
-        ("{\"room\":[{\"id\":0,\"capacity\":1}]}", "/facts/room/0/id"),
-        (
-            "{\"room\":[{\"id\":1000000001,\"capacity\":1}]}",
-            "/facts/room/0/id",
-        ),
-        (
-            "{\"room\":[{\"id\":1.0,\"capacity\":1}]}",
-            "/facts/room/0/id",
-        ),
-        (
-            "{\"room\":[{\"id\":1000000000,\"capacity\":1},{\"id\":2}]}",
-            "/facts/room/1/capacity",
-        ),
-        (
-            "{\"room\":[{\"id\":1,\"capacity\":\"x\"}]}",
-            "/facts/room/0/capacity",
-        ),
-        (
-            "{\"room\":[{\"id\":1,\"capacity\":1,\"x\":1}]}",
-            "/facts/room/0",
-        ),
-        ("{\"rum\":[]}", "/facts"),
-        ("{\"rum\":[],\"room\":[{\"x\":1}]}", "/facts/room/0/id"),
-        (
-            "{\"lesson\":[{\"id\":1,\"subject\":\"s\"}]}",
-            "/facts/lesson/0/size",
-        ),
-        (
-            "{\"lesson\":[{\"id\":1,\"subject\":2,\"size\":2}]}",
-            "/facts/lesson/0/subject",
-        ),
-        (
-            "{\"lesson\":[{\"id\":1,\"subject\":\"\",\"size\":2,\"room\":null}]}",
-            "fits",
-        ),
-        (
-            "{\"lesson\":[{\"id\":1,\"subject\":\"s\",\"size\":2,\"room\":9}]}",
-            "fits",
-        ),
-        (
-            "{\"lesson\":[{\"id\":1,\"subject\":\"s\",\"size\":2,\"room\":0}]}",
-            "/facts/lesson/0/room",
-        ),
-        (
-            "{\"lesson\":[{\"id\":1,\"subject\":\"s\",\"size\":2,\"room\":\"r\"}]}",
-            "/facts/lesson/0/room",
-        ),
-    ];
-    for (facts, want) in cases {
+    for (facts, want) in CASES {
         let path = path_in(rt.alloc(), &schema, facts)?;
-        assert_eq!(rt; path.as_str(), want, "{facts}");
+        assert_eq!(rt; path.as_str(), *want, "{facts}");
     }
     Ok(())
 }

@@ -8,8 +8,20 @@ fn text(alloc: Global, words: &str) -> Result<Text, Memory> {
     Text::from_slice(alloc, words.as_bytes())
 }
 
-/// Those that name a record.
-fn push_records(alloc: Global, lines: &mut Vec<(ProblemFault, &'static str)>) -> Result<(), Fail> {
+/// Each fault but want of memory, beside its line.
+fn lines(alloc: Global) -> Result<Vec<(ProblemFault, &'static str)>, Fail> {
+    let mut lines = Vec::new(alloc);
+    lines.push((ProblemFault::TooLong, "refused problem too_long\n"))?;
+    lines.push((ProblemFault::Json, "refused problem json\n"))?;
+    lines.push((
+        ProblemFault::shape(alloc, &[b"/facts/", b"room", b"/0"]),
+        "refused problem shape /facts/room/0\n",
+    ))?;
+    lines.push((ProblemFault::UnknownDomain, "refused problem domain\n"))?;
+    lines.push((
+        ProblemFault::TooManyFacts,
+        "refused problem too_many_facts\n",
+    ))?;
     lines.push((
         ProblemFault::DoubleId {
             class: text(alloc, "lesson")?,
@@ -33,24 +45,6 @@ fn push_records(alloc: Global, lines: &mut Vec<(ProblemFault, &'static str)>) ->
         },
         "refused problem bad_value shift#1000000000 worker\n",
     ))?;
-    Ok(())
-}
-
-/// Each fault but want of memory, beside its line.
-fn lines(alloc: Global) -> Result<Vec<(ProblemFault, &'static str)>, Fail> {
-    let mut lines = Vec::new(alloc);
-    lines.push((ProblemFault::TooLong, "refused problem too_long\n"))?;
-    lines.push((ProblemFault::Json, "refused problem json\n"))?;
-    lines.push((
-        ProblemFault::shape(alloc, &[b"/facts/", b"room", b"/0"]),
-        "refused problem shape /facts/room/0\n",
-    ))?;
-    lines.push((ProblemFault::UnknownDomain, "refused problem domain\n"))?;
-    lines.push((
-        ProblemFault::TooManyFacts,
-        "refused problem too_many_facts\n",
-    ))?;
-    push_records(alloc, &mut lines)?;
     lines.push((
         ProblemFault::RangeProduct {
             class: text(alloc, "lesson")?,

@@ -1,0 +1,13 @@
+pub mod ById
+pub mod Collected
+pub mod Grouped
+pub mod Nodes
+pub mod Pairs
+pub mod Rearranged
+pub mod Restored
+pub mod Rising
+pub mod RowEquality
+pub mod RowOrder
+pub mod Scores
+pub mod Streams
+pub mod Sums

@@ -1,0 +1,31 @@
+// Laws of the rows of streams, on which nodes that keep rows may stand.
+ghost use Rattle.row_laws.specs.Laws.{SameAreRearranged, NodesKeepSameness, GroupsForgetOrder, MeetingForgetsOrder, LeftRowsLead, RightRecordsLead, TestsTurn, OtherGroupsStay, PlansAreById, PairsAreJoins, RowsAreInOrder, SortingRestoresRows, ScoresAreOfRules};
+
+/// Rows may be kept in any order: nodes make the same of them but for the order, and groups are the very same.
+pub fn order_may_be_forgotten()
+    ensures rearranged { SameAreRearranged }
+    ensures nodes { NodesKeepSameness }
+    ensures groups { GroupsForgetOrder }
+    ensures meeting { MeetingForgetsOrder }
+{}
+
+/// Only what went and what came need go through a node: what it makes of them leads from its old rows to its new ones.
+pub fn changes_lead_through_nodes()
+    ensures left { LeftRowsLead }
+    ensures right { RightRecordsLead }
+    ensures turning { TestsTurn }
+    ensures others { OtherGroupsStay }
+{}
+
+/// The order of a rule's rows comes back by sorting them.
+pub fn order_comes_back()
+    ensures plans { PlansAreById }
+    ensures pairs { PairsAreJoins }
+    ensures in_order { RowsAreInOrder }
+    ensures sorted { SortingRestoresRows }
+{}
+
+/// A score hangs on the sum of each rule's match weights alone.
+pub fn scores_add_up_by_rule()
+    ensures sum { ScoresAreOfRules }
+{}

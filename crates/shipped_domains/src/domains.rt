@@ -1,4 +1,4 @@
-ghost use Rattle.std.specs.Prelude.{◌≡◌, IfOk, IsTrue};
+ghost use Rattle.std.specs.Prelude.{◌≡◌, ◌∷◌, [], IfOk, IsTrue};
 ghost use Rattle.plan_facts.specs.Schema.{is_name};
 ghost use Rattle.plan_json.specs.Problem.{domain_with};
 ghost use Rattle.shipped_domains.specs.Catalog.{timetable, roster};
@@ -23,6 +23,7 @@ fn domain_of(
     requires over { rules.schema ≡ schema }
     ensures view { IfOk result (λ domain. domain_with domain.name domain.schema domain.rules.defs domain.rules.caps ≡ domain_with name.now schema rules.defs rules.caps) }
     ensures rules { IfOk result (λ domain. domain.rules ≡ rules) }
+    ensures makers { IfOk result (λ domain. domain.makers.items ≡ maker ∷ []) }
 {
     let mut makers = Vec::new(alloc);
     makers.push(maker)?;
@@ -38,6 +39,7 @@ pub(crate) fn timetable_of(
 ) -> Result<Domain<Shipped>, Memory>
     ensures view { IfOk result (λ domain. domain_with domain.name domain.schema domain.rules.defs domain.rules.caps ≡ timetable) }
     ensures keeps { IfOk result (λ domain. ⟦<Rules<Shipped> as Kept>⟧.keeps domain.rules) }
+    ensures makers { IfOk result (λ domain. domain.makers.items ≡ maker ∷ []) }
 {
     let schema = domain_timetable::schema(alloc)?;
     let defs = domain_timetable::defs(alloc)?;
@@ -60,6 +62,7 @@ pub(crate) fn roster_of(
 ) -> Result<Domain<Shipped>, Memory>
     ensures view { IfOk result (λ domain. domain_with domain.name domain.schema domain.rules.defs domain.rules.caps ≡ roster) }
     ensures keeps { IfOk result (λ domain. ⟦<Rules<Shipped> as Kept>⟧.keeps domain.rules) }
+    ensures makers { IfOk result (λ domain. domain.makers.items ≡ maker ∷ []) }
 {
     let schema = domain_roster::schema(alloc)?;
     let defs = domain_roster::defs(alloc)?;

@@ -1,6 +1,7 @@
-ghost use Rattle.std.specs.Prelude.{◌≡◌, ◌++◌, List, All, IfOk, map};
+ghost use Rattle.std.specs.Prelude.{◌≡◌, ◌++◌, ℕ, List, All, IfOk, map};
+ghost use Rattle.plan_facts.specs.Plan.{PlanView};
 ghost use Rattle.plan_json.specs.Problem.{DomainView, domain_with};
-ghost use Rattle.shipped_domains.specs.Catalog.{catalog};
+ghost use Rattle.shipped_domains.specs.Catalog.{catalog, catalog_made};
 
 use crate::closures::{Closures, parted};
 use crate::domains::{roster_of, timetable_of};
@@ -28,10 +29,11 @@ pub trait Act: Drop {
     /// Whether it may answer this, where the domains are these, as reading sees them.
     ghost answers: { Self → List DomainView → Self.Answer → Type 0 };
 
-    /// Does it with these domains, whose closures keep to the book.
+    /// Does it with these domains, whose closures keep to the book and whose makers of moves make what is theirs.
     fn act(self, domains: &[Domain<Shipped>]) -> Self::Answer
         requires ready { is_ready self }
         requires keeps { All (λ domain. ⟦<Rules<Shipped> as Kept>⟧.keeps domain.rules) domains.now }
+        requires makers { (plan : PlanView) (words : List ℕ) → map (λ domain. map (λ maker. (⟦<dyn MoveMaker as MoveMaker>⟧ maker.vtable).made maker.value plan words) domain.makers.items) domains.now ≡ catalog_made plan words }
         ensures { answers self (map (λ d. domain_with d.name d.schema d.rules.defs d.rules.caps) domains.now) result };
 }
 

@@ -9,3 +9,6 @@ returns-clause-view g c =
 
 pub returns-clause-keeps : goal.returns-clause-keeps
 returns-clause-keeps g c = IfOk-weaker c.domain_of.result _ _ (λ domain same. rw same c.in_ok-rules.ensures.keeps) c.domain_of.ensures.rules
+
+pub returns-clause-makers : goal.returns-clause-makers
+returns-clause-makers g c = c.domain_of.ensures.makers

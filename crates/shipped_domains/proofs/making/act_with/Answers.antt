@@ -1,7 +1,13 @@
-use Rattle.std.proofs.Common.{inl, inr}
-use Rattle.shipped_domains.proofs.Pairs.{one_of_two}
+use Rattle.std.proofs.Common.{[], ◌∷◌, List, Option, inl, inr, refl}
+use denote.Param.Object.{read_made}
+use Rattle.plan_moves.specs.declared.edit.Set.{Set}
+use Rattle.domain_timetable.specs.Moves.{timetable_made}
+use Rattle.domain_roster.specs.Moves.{roster_made}
+use Rattle.shipped_domains.proofs.Pairs.{one_mapped, one_of_two, two_same}
+use Rattle.shipped_domains.proofs.making.act_with.OwnLists.{own-4}
 use Rattle.shipped_domains.proofs.making.act_with.Goals as goal
 
+-- own-4 is the table of the types that are boxed as makers here: the timetable's first, then the roster's
 pub act-requires : goal.act-requires
 act-requires g c = record {
   ready = c.requires;
@@ -9,4 +15,8 @@ act-requires g c = record {
     | inl is ↦ rw is c.in_ok-timetable.ensures.keeps
     | inr is ↦ rw is c.in_ok-roster.ensures.keeps
   ];
+  makers = λ plan words.
+      two_same _ _ (timetable_made plan words ∷ []) (roster_made plan words ∷ [])
+      (one_mapped _ _ _ (timetable_made plan words) c.in_ok-timetable.ensures.makers (read_made own-4 _ (inl tt) refl (Option (List Set)) (λ j z. j.1.made z plan words) _ _ _ c.into_dyn_box.ensures.1))
+      (one_mapped _ _ _ (roster_made plan words) c.in_ok-roster.ensures.makers (read_made own-4 _ (inr (inl tt)) refl (Option (List Set)) (λ j z. j.1.made z plan words) _ _ _ c.into_dyn_box-in_ok-new-2.ensures.1));
 }

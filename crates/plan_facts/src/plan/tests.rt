@@ -12,55 +12,76 @@ const SLOT: u8 = 1;
 
 const ROOM: u8 = 2;
 
-fn class_of(alloc: Global, name: &str, fields: usize, vars: &[u8]) -> Result<ClassDef, Memory> {
-    let letters = ["a", "b"];
-    let mut field_defs = List::new(alloc);
-    for place in 0..fields.min(2) {
-        field_defs.push(FieldDef {
-            name: Text::from_slice(alloc, letters[place].as_bytes())?,
-            kind: Kind::Number,
-        })?;
-    }
-    let mut var_defs = List::new(alloc);
-    for values in vars {
-        let name = if *values == SLOT { "slot" } else { "room" };
-        var_defs.push(VarDef {
-            name: Text::from_slice(alloc, name.as_bytes())?,
-            values: *values,
-        })?;
-    }
-    Ok(ClassDef {
-        name: Text::from_slice(alloc, name.as_bytes())?,
-        fields: field_defs,
-        vars: var_defs,
-    })
-}
-
-const ONE_SLOT: &[Sketch] = &[(1, &[0, 0], &[])];
+/// A class to be made: its name, and its fields and variables, each variable with the class of its values.
+type ClassSketch = (&'static str, &'static [(&'static str, Option<u8>)]);
 
 /// Lessons with one field, which have a slot and a room; slots with two fields; rooms with one.
+const CLASSES: &[ClassSketch] = &[
+    (
+        "lesson",
+        &[("a", None), ("slot", Some(SLOT)), ("room", Some(ROOM))],
+    ),
+    ("slot", &[("a", None), ("b", None)]),
+    ("room", &[("a", None)]),
+];
+
+/// Adds a variable with values of this class, or a field.
+fn add_member(class: &mut ClassDef, name: Text, values: Option<u8>) -> Result<(), Memory> {
+    let kind = Kind::Number;
+    match values {
+        Some(values) => class.vars.push(VarDef { name, values }),
+        None => class.fields.push(FieldDef { name, kind }),
+    }
+}
+
+fn class_of(alloc: Global, sketch: &ClassSketch) -> Result<ClassDef, Memory> {
+    let mut class = ClassDef {
+        name: Text::from_slice(alloc, sketch.0.as_bytes())?,
+        fields: List::new(alloc),
+        vars: List::new(alloc),
+    };
+    for (name, values) in sketch.1 {
+        let name = Text::from_slice(alloc, name.as_bytes())?;
+        add_member(&mut class, name, *values)?;
+    }
+    Ok(class)
+}
+
 fn lessons(alloc: Global) -> Result<Schema, Fail> {
     let mut classes = List::new(alloc);
-    classes.push(class_of(alloc, "lesson", 1, &[SLOT, ROOM])?)?;
-    classes.push(class_of(alloc, "slot", 2, &[])?)?;
-    classes.push(class_of(alloc, "room", 1, &[])?)?;
+    for sketch in CLASSES {
+        classes.push(class_of(alloc, sketch)?)?;
+    }
     Ok(Schema::build(classes)?)
 }
 
-fn lists_of(alloc: Global, sketches: &[&[Sketch]]) -> Result<List<List<Raw>>, Memory> {
+fn raw_of(alloc: Global, sketch: &Sketch) -> Result<Raw, Memory> {
+    Ok(Raw {
+        id: sketch.0,
+        fields: List::from_slice(alloc, sketch.1)?,
+        values: List::from_slice(alloc, sketch.2)?,
+    })
+}
+
+fn raws_of(alloc: Global, sketches: &[Sketch]) -> Result<List<Raw>, Memory> {
+    let mut raws = List::new(alloc);
+    for sketch in sketches {
+        raws.push(raw_of(alloc, sketch)?)?;
+    }
+    Ok(raws)
+}
+
+fn lists_of(alloc: Global, classes: &[&[Sketch]]) -> Result<List<List<Raw>>, Memory> {
     let mut lists = List::new(alloc);
-    for class in sketches {
-        let mut raws = List::new(alloc);
-        for sketch in *class {
-            raws.push(Raw {
-                id: sketch.0,
-                fields: List::from_slice(alloc, sketch.1)?,
-                values: List::from_slice(alloc, sketch.2)?,
-            })?;
-        }
-        lists.push(raws)?;
+    for sketches in classes {
+        lists.push(raws_of(alloc, sketches)?)?;
     }
     Ok(lists)
+}
+
+/// The plan of these lists.
+fn plan_of(alloc: Global, schema: &Schema, lists: &[&[Sketch]]) -> Result<Plan, PlanFault> {
+    Plan::of(alloc, schema, lists_of(alloc, lists)?)
 }
 
 /// Two lessons, of which the second has a slot and no room; three slots and two rooms, not in the order of their ids.
@@ -75,52 +96,115 @@ const TIMETABLE: &[&[Sketch]] = &[
 ];
 
 fn timetable(alloc: Global) -> Result<Plan, Fail> {
-    let plan = Plan::of(alloc, &lessons(alloc)?, lists_of(alloc, TIMETABLE)?)?;
-    Ok(plan)
+    let schema = lessons(alloc)?;
+    Ok(plan_of(alloc, &schema, TIMETABLE)?)
+}
+
+/// Whether the fact of this class is live and as sketched.
+fn holds(plan: &Plan, class: u8, sketch: &Sketch) -> bool {
+    match plan.raw(class, sketch.0) {
+        Some(raw) => {
+            raw.id == sketch.0
+                && raw.fields.as_slice() == sketch.1
+                && raw.values.as_slice() == sketch.2
+        }
+        None => false,
+    }
+}
+
+/// Classes, with the ids of their live facts and the next one.
+const IDS: &[(u8, &[u32], u32)] = &[
+    (LESSON, &[1, 2], 3),
+    (SLOT, &[4, 9, 1_000_000_000], 1_000_000_001),
+    (ROOM, &[1, 3], 4),
+    (3, &[], 1),
+];
+
+/// The first class whose ids aren't those.
+fn wrong_ids(plan: &Plan) -> Option<u8> {
+    for (class, live, next) in IDS {
+        if plan.ids(*class) != *live || plan.next_id(*class) != *next {
+            return Some(*class);
+        }
+    }
+    None
+}
+
+/// The class and the id of no live fact.
+const MISSING: &[(u8, u32)] = &[(LESSON, 3), (SLOT, 3), (3, 1), (255, 1)];
+
+/// The first of those that the plan gives.
+fn wrong_fact(plan: &Plan) -> Result<Option<(u8, u32)>, Memory> {
+    for (class, id) in MISSING {
+        if plan.raw(*class, *id).is_some() || plan.resolve(*class, *id)?.is_some() {
+            return Ok(Some((*class, *id)));
+        }
+    }
+    Ok(None)
 }
 
 #[test]
 fn reads_what_lists_give(rt: HostRuntime) -> Result<(), Fail> {
     let plan = timetable(rt.alloc())?;
-    let ids: &[(u8, &[u32], u32)] = &[
-        (LESSON, &[1, 2], 3),
-        (SLOT, &[4, 9, 1_000_000_000], 1_000_000_001),
-        (ROOM, &[1, 3], 4),
-        (3, &[], 1),
-    ];
-    for (class, live, next) in ids {
-        assert_eq!(rt; plan.ids(*class), *live, "class {class}");
-        assert_eq!(rt; plan.next_id(*class), *next, "class {class}");
-    }
-    assert_eq!(rt; plan.made(), 7);
-    assert_eq!(rt; plan.unplaced(), 3);
-    let second = plan.raw(LESSON, 2).ok_or("no lesson 2")?;
-    assert_eq!(rt; second.fields.as_slice(), [30].as_slice());
-    assert_eq!(rt; second.values.as_slice(), [Some(9), None].as_slice());
-    for (class, id) in [(LESSON, 3), (SLOT, 3), (3, 1), (255, 1)] {
-        assert!(rt; plan.raw(class, id).is_none(), "{class} {id}");
-        assert!(rt; plan.resolve(class, id)?.is_none(), "{class} {id}");
-    }
+    assert!(rt; wrong_ids(&plan) == None);
+    assert!(rt; wrong_fact(&plan) == Ok(None));
+    assert!(rt; plan.made() == 7);
+    assert!(rt; plan.unplaced() == 3);
+    assert!(rt; holds(&plan, LESSON, &(2, &[30], &[Some(9), None])));
     Ok(())
 }
+
+/// The value of a variable: null, or the id and the fields of a fact.
+type Held = Option<(u32, &'static [i64])>;
+
+fn holds_value(rec: &Rec, var: usize, wanted: &Held) -> bool {
+    match (rec.planned.get(var), wanted) {
+        (Some(Some(value)), Some((id, fields))) => {
+            value.id == *id && value.fields.as_slice() == *fields
+        }
+        (Some(None), None) => true,
+        _ => false,
+    }
+}
+
+fn holds_values(rec: &Rec, wanted: &[Held]) -> bool {
+    for (var, wanted) in wanted.iter().enumerate() {
+        if !holds_value(rec, var, wanted) {
+            return false;
+        }
+    }
+    rec.planned.len() == wanted.len()
+}
+
+/// A resolved record: its class, id and fields, and the values of its variables.
+type Whole = (u8, u32, &'static [i64], &'static [Held]);
+
+/// Whether this fact is live and resolves to that.
+fn resolves(plan: &Plan, wanted: &Whole) -> Result<bool, Memory> {
+    Ok(match plan.resolve(wanted.0, wanted.1)? {
+        Some(rec) => {
+            rec.class == wanted.0
+                && rec.id == wanted.1
+                && rec.fields.as_slice() == wanted.2
+                && holds_values(&rec, wanted.3)
+        }
+        None => false,
+    })
+}
+
+const LESSON_TWO: Whole = (LESSON, 2, &[30], &[Some((9, &[1, 480])), None]);
+
+const ROOM_ONE: Whole = (ROOM, 1, &[20], &[]);
 
 #[test]
 fn resolves_the_whole_values(rt: HostRuntime) -> Result<(), Fail> {
     let plan = timetable(rt.alloc())?;
-    let lesson = plan.resolve(LESSON, 2)?.ok_or("no lesson 2")?;
-    assert_eq!(rt; lesson.class, LESSON);
-    assert_eq!(rt; lesson.id, 2);
-    assert_eq!(rt; lesson.fields.as_slice(), [30].as_slice());
-    assert_eq!(rt; lesson.planned.len(), 2);
-    let slot = lesson.planned.get(0).ok_or("no variable")?;
-    let slot = slot.as_ref().ok_or("no slot")?;
-    assert_eq!(rt; slot.id, 9);
-    assert_eq!(rt; slot.fields.as_slice(), [1, 480].as_slice());
-    assert!(rt; lesson.planned.get(1).ok_or("no variable")?.is_none());
-    let room = plan.resolve(ROOM, 1)?.ok_or("no room 1")?;
-    assert_eq!(rt; room.planned.len(), 0);
+    assert!(rt; resolves(&plan, &LESSON_TWO) == Ok(true));
+    assert!(rt; resolves(&plan, &ROOM_ONE) == Ok(true));
     Ok(())
 }
+
+const ONE_SLOT: &[Sketch] = &[(1, &[0, 0], &[])];
 
 /// Lists, and the first of their faults.
 const FAULTS: &[(&[&[Sketch]], PlanFault)] = &[
@@ -228,39 +312,44 @@ const FAULTS: &[(&[&[Sketch]], PlanFault)] = &[
 
 #[test]
 fn names_the_first_fault(rt: HostRuntime) -> Result<(), Fail> {
+    let schema = lessons(rt.alloc())?;
     for (lists, fault) in FAULTS {
-        let schema = lessons(rt.alloc())?;
-        let plan = Plan::of(rt.alloc(), &schema, lists_of(rt.alloc(), lists)?);
-        assert_eq!(rt; plan.err(), Some(*fault));
+        let found = plan_of(rt.alloc(), &schema, lists).err();
+        assert!(rt; found == Some(*fault), "{fault:?} and not {found:?}");
     }
     Ok(())
 }
 
-/// Lists with so many slots, the greatest id first.
-fn many_slots(alloc: Global, count: u32) -> Result<List<List<Raw>>, Memory> {
+/// So many slots, the greatest id first.
+fn slots(alloc: Global, count: u32) -> Result<List<Raw>, Memory> {
     let mut slots = List::new(alloc);
     for place in 0..count {
-        slots.push(Raw {
-            id: count - place,
-            fields: List::from_slice(alloc, &[0, 0])?,
-            values: List::new(alloc),
-        })?;
+        slots.push(raw_of(alloc, &(count - place, &[0, 0], &[]))?)?;
     }
-    let mut lists = List::new(alloc);
-    lists.push(List::new(alloc))?;
-    lists.push(slots)?;
+    Ok(slots)
+}
+
+/// No lesson, so many slots and no room.
+fn lists_of_slots(alloc: Global, count: u32) -> Result<List<List<Raw>>, Memory> {
+    let mut lists = lists_of(alloc, &[&[]])?;
+    lists.push(slots(alloc, count)?)?;
     lists.push(List::new(alloc))?;
     Ok(lists)
+}
+
+/// The plan with so many slots, no lesson and no room.
+fn plan_of_slots(alloc: Global, schema: &Schema, count: u32) -> Result<Plan, PlanFault> {
+    Plan::of(alloc, schema, lists_of_slots(alloc, count)?)
 }
 
 #[test]
 fn takes_twenty_thousand_facts(rt: HostRuntime) -> Result<(), Fail> {
     let schema = lessons(rt.alloc())?;
-    let plan = Plan::of(rt.alloc(), &schema, many_slots(rt.alloc(), 20_000)?)?;
-    assert_eq!(rt; plan.made(), 20_000);
-    assert_eq!(rt; plan.raw(SLOT, 20_000).ok_or("no slot")?.id, 20_000);
-    let more = Plan::of(rt.alloc(), &schema, many_slots(rt.alloc(), 20_001)?);
-    assert_eq!(rt; more.err(), Some(PlanFault::TooManyFacts));
+    let more = plan_of_slots(rt.alloc(), &schema, 20_001).err();
+    assert!(rt; more == Some(PlanFault::TooManyFacts));
+    let plan = plan_of_slots(rt.alloc(), &schema, 20_000)?;
+    assert!(rt; plan.made() == 20_000);
+    assert!(rt; holds(&plan, SLOT, &(20_000, &[0, 0], &[])));
     Ok(())
 }
 
@@ -295,124 +384,136 @@ fn try_set_field(plan: &mut Plan, class: u8, id: u32, field: u8, number: i64) ->
     true
 }
 
+/// Sets of a lesson's variables, and how many are null after each.
+const SETS: &[(u32, u8, Option<u32>, u32)] = &[
+    (1, 0, Some(4), 2),
+    (2, 1, Some(3), 1),
+    (2, 0, None, 2),
+    (2, 0, None, 2),
+    (2, 1, Some(1), 2),
+];
+
+/// The first of those that isn't done, by its place.
+fn wrong_set(plan: &mut Plan) -> Option<usize> {
+    for (place, (id, var, value, unplaced)) in SETS.iter().enumerate() {
+        if !try_set(plan, LESSON, *id, *var, *value) || plan.unplaced() != *unplaced {
+            return Some(place);
+        }
+    }
+    None
+}
+
+/// Lesson 1 after those, with slot 4, whose second field was set.
+const LESSON_ONE: Whole = (LESSON, 1, &[25], &[Some((4, &[1, -600])), None]);
+
 #[test]
 fn sets_variables_and_fields(rt: HostRuntime) -> Result<(), Fail> {
     let mut plan = timetable(rt.alloc())?;
     let before = plan.copy()?;
-    let steps: &[(u32, u8, Option<u32>, u32)] = &[
-        (1, 0, Some(4), 2),
-        (2, 1, Some(3), 1),
-        (2, 0, None, 2),
-        (2, 0, None, 2),
-        (2, 1, Some(1), 2),
-    ];
-    for (id, var, value, unplaced) in steps {
-        assert!(rt; try_set(&mut plan, LESSON, *id, *var, *value));
-        assert_eq!(rt; plan.unplaced(), *unplaced);
-    }
+    assert!(rt; wrong_set(&mut plan) == None);
     assert!(rt; !try_set(&mut plan, LESSON, 1, 0, Some(5)));
     assert!(rt; try_set_field(&mut plan, SLOT, 4, 1, -600));
-    let values: &[(u32, &[Option<u32>])] = &[(1, &[Some(4), None]), (2, &[None, Some(1)])];
-    for (id, held) in values {
-        let raw = plan.raw(LESSON, *id).ok_or("no lesson")?;
-        assert_eq!(rt; raw.values.as_slice(), *held);
-    }
-    let first = plan.resolve(LESSON, 1)?.ok_or("no lesson 1")?;
-    let slot = first.planned.get(0).ok_or("no variable")?;
-    let slot = slot.as_ref().ok_or("no slot")?;
-    assert_eq!(rt; slot.fields.as_slice(), [1, -600].as_slice());
-    assert_eq!(rt; before.unplaced(), 3);
-    let unmoved = before.raw(LESSON, 2).ok_or("no lesson 2")?;
-    assert_eq!(rt; unmoved.values.as_slice(), [Some(9), None].as_slice());
+    assert!(rt; resolves(&plan, &LESSON_ONE) == Ok(true));
+    assert!(rt; holds(&plan, LESSON, &(1, &[25], &[Some(4), None])));
+    assert!(rt; holds(&plan, LESSON, &(2, &[30], &[None, Some(1)])));
+    assert!(rt; holds(&before, LESSON, &(2, &[30], &[Some(9), None])));
+    assert!(rt; before.unplaced() == 3);
     Ok(())
 }
 
 /// Adds a fact where its class is there.
 fn try_add(plan: &mut Plan, alloc: Global, class: u8, sketch: &Sketch) -> Result<u32, PlanFault> {
-    let fields = List::from_slice(alloc, sketch.1)?;
-    let values = List::from_slice(alloc, sketch.2)?;
     if class >= plan.classes() {
         return Err(PlanFault::ClassCount);
     }
+    let Raw { fields, values, .. } = raw_of(alloc, sketch)?;
     plan.add(class, fields, values)
+}
+
+/// Lessons that can't be added, and why.
+const BAD_LESSONS: &[(Sketch, PlanFault)] = &[
+    (
+        (0, &[], &[Some(5)]),
+        PlanFault::FieldCount {
+            class: LESSON,
+            id: 3,
+        },
+    ),
+    (
+        (0, &[1_000_000_001], &[Some(5)]),
+        PlanFault::FieldRange {
+            class: LESSON,
+            id: 3,
+            field: 0,
+        },
+    ),
+    (
+        (0, &[1], &[Some(5)]),
+        PlanFault::BadValue {
+            class: LESSON,
+            id: 3,
+            var: 0,
+        },
+    ),
+    (
+        (0, &[1], &[Some(4)]),
+        PlanFault::BadValue {
+            class: LESSON,
+            id: 3,
+            var: 2,
+        },
+    ),
+];
+
+/// The first of those that isn't refused so, or leaves the plan changed.
+fn wrong_refusal(plan: &mut Plan, alloc: Global) -> Option<PlanFault> {
+    for (lesson, fault) in BAD_LESSONS {
+        let answer = try_add(plan, alloc, LESSON, lesson);
+        if answer != Err(*fault) || plan.made() != 7 || plan.ids(LESSON) != [1, 2].as_slice() {
+            return Some(*fault);
+        }
+    }
+    None
+}
+
+/// Facts that are added, with the id that each gets and how many variables are null then.
+const ADDED: &[(u8, Sketch, u32, u32)] = &[
+    (LESSON, (0, &[1], &[Some(4), None]), 3, 4),
+    (SLOT, (0, &[2, 480], &[]), 1_000_000_001, 4),
+    (LESSON, (0, &[1], &[Some(1_000_000_001), Some(1)]), 4, 4),
+];
+
+/// The first of those that isn't added so, by its place.
+fn wrong_add(plan: &mut Plan, alloc: Global) -> Option<usize> {
+    for (place, (class, sketch, id, unplaced)) in ADDED.iter().enumerate() {
+        if try_add(plan, alloc, *class, sketch) != Ok(*id) || plan.unplaced() != *unplaced {
+            return Some(place);
+        }
+    }
+    None
 }
 
 #[test]
 fn adds_facts_under_new_ids(rt: HostRuntime) -> Result<(), Fail> {
     let mut plan = timetable(rt.alloc())?;
-    let faults: &[(u8, Sketch, PlanFault)] = &[
-        (
-            LESSON,
-            (0, &[], &[Some(5)]),
-            PlanFault::FieldCount {
-                class: LESSON,
-                id: 3,
-            },
-        ),
-        (
-            LESSON,
-            (0, &[1_000_000_001], &[Some(5)]),
-            PlanFault::FieldRange {
-                class: LESSON,
-                id: 3,
-                field: 0,
-            },
-        ),
-        (
-            LESSON,
-            (0, &[1], &[Some(5)]),
-            PlanFault::BadValue {
-                class: LESSON,
-                id: 3,
-                var: 0,
-            },
-        ),
-        (
-            LESSON,
-            (0, &[1], &[Some(4)]),
-            PlanFault::BadValue {
-                class: LESSON,
-                id: 3,
-                var: 2,
-            },
-        ),
-    ];
-    for (class, sketch, fault) in faults {
-        let answer = try_add(&mut plan, rt.alloc(), *class, sketch);
-        assert_eq!(rt; answer.err(), Some(*fault));
-        assert_eq!(rt; plan.made(), 7);
-        assert_eq!(rt; plan.ids(LESSON), [1, 2].as_slice());
-    }
-    let steps: &[(u8, Sketch, u32, u32)] = &[
-        (LESSON, (0, &[1], &[Some(4), None]), 3, 4),
-        (SLOT, (0, &[2, 480], &[]), 1_000_000_001, 4),
-        (LESSON, (0, &[1], &[Some(1_000_000_001), Some(1)]), 4, 4),
-    ];
-    for (class, sketch, id, unplaced) in steps {
-        assert_eq!(rt; try_add(&mut plan, rt.alloc(), *class, sketch)?, *id);
-        assert_eq!(rt; plan.unplaced(), *unplaced);
-    }
-    assert_eq!(rt; plan.made(), 10);
-    let fourth = plan.raw(LESSON, 4).ok_or("no lesson 4")?;
-    assert_eq!(rt;
-        fourth.values.as_slice(),
-        [Some(1_000_000_001), Some(1)].as_slice()
-    );
+    assert!(rt; wrong_refusal(&mut plan, rt.alloc()) == None);
+    assert!(rt; wrong_add(&mut plan, rt.alloc()) == None);
+    assert!(rt; plan.made() == 10);
+    assert!(rt; holds(&plan, LESSON, &(4, &[1], &[Some(1_000_000_001), Some(1)])));
     assert!(rt; plan.remove(SLOT, 1_000_000_001));
-    assert_eq!(rt; plan.next_id(SLOT), 1_000_000_002);
-    assert_eq!(rt; plan.made(), 10);
+    assert!(rt; plan.next_id(SLOT) == 1_000_000_002);
+    assert!(rt; plan.made() == 10);
     Ok(())
 }
 
 #[test]
 fn adds_no_more_than_twenty_thousand(rt: HostRuntime) -> Result<(), Fail> {
     let schema = lessons(rt.alloc())?;
-    let mut plan = Plan::of(rt.alloc(), &schema, many_slots(rt.alloc(), 19_999)?)?;
+    let mut plan = plan_of_slots(rt.alloc(), &schema, 19_999)?;
     let room: &Sketch = &(0, &[7], &[]);
-    assert_eq!(rt; try_add(&mut plan, rt.alloc(), ROOM, room)?, 1);
+    assert!(rt; try_add(&mut plan, rt.alloc(), ROOM, room) == Ok(1));
     assert!(rt; plan.remove(SLOT, 5));
-    let answer = try_add(&mut plan, rt.alloc(), ROOM, room);
-    assert_eq!(rt; answer.err(), Some(PlanFault::TooManyFacts));
+    assert!(rt; try_add(&mut plan, rt.alloc(), ROOM, room) == Err(PlanFault::TooManyFacts));
     Ok(())
 }
 
@@ -420,16 +521,15 @@ fn adds_no_more_than_twenty_thousand(rt: HostRuntime) -> Result<(), Fail> {
 fn removes_facts_from_the_variables(rt: HostRuntime) -> Result<(), Fail> {
     let mut plan = timetable(rt.alloc())?;
     assert!(rt; !plan.remove(SLOT, 5));
-    assert_eq!(rt; plan.unplaced(), 3);
+    assert!(rt; plan.unplaced() == 3);
     assert!(rt; plan.remove(SLOT, 9));
     assert!(rt; !plan.remove(SLOT, 9));
-    assert_eq!(rt; plan.ids(SLOT), [4, 1_000_000_000].as_slice());
-    assert_eq!(rt; plan.unplaced(), 4);
-    let second = plan.raw(LESSON, 2).ok_or("no lesson 2")?;
-    assert_eq!(rt; second.values.as_slice(), [None, None].as_slice());
+    assert!(rt; plan.ids(SLOT) == [4, 1_000_000_000].as_slice());
+    assert!(rt; plan.unplaced() == 4);
+    assert!(rt; holds(&plan, LESSON, &(2, &[30], &[None, None])));
     assert!(rt; plan.remove(LESSON, 1));
-    assert_eq!(rt; plan.unplaced(), 2);
-    assert_eq!(rt; plan.made(), 7);
+    assert!(rt; plan.unplaced() == 2);
+    assert!(rt; plan.made() == 7);
     assert!(rt; !plan.remove(3, 1));
     Ok(())
 }

@@ -5,33 +5,29 @@ use crate::text::Text;
 use std::alloc::Global;
 use std::test::Fail;
 
-/// A class to be made: its name, the names of its fields, and its variables with the classes of their values.
-type Sketch = (
-    &'static str,
-    &'static [&'static str],
-    &'static [(&'static str, u8)],
-);
+/// A class to be made: its name, and its fields and variables, each variable with the class of its values.
+type Sketch = (&'static str, &'static [(&'static str, Option<u8>)]);
+
+/// Adds a variable with values of this class, or a field.
+fn add_member(class: &mut ClassDef, name: Text, values: Option<u8>) -> Result<(), Memory> {
+    let kind = Kind::Number;
+    match values {
+        Some(values) => class.vars.push(VarDef { name, values }),
+        None => class.fields.push(FieldDef { name, kind }),
+    }
+}
 
 fn class_of(alloc: Global, sketch: &Sketch) -> Result<ClassDef, Memory> {
-    let mut fields = List::new(alloc);
-    for name in sketch.1 {
-        fields.push(FieldDef {
-            name: Text::from_slice(alloc, name.as_bytes())?,
-            kind: Kind::Number,
-        })?;
-    }
-    let mut vars = List::new(alloc);
-    for var in sketch.2 {
-        vars.push(VarDef {
-            name: Text::from_slice(alloc, var.0.as_bytes())?,
-            values: var.1,
-        })?;
-    }
-    Ok(ClassDef {
+    let mut class = ClassDef {
         name: Text::from_slice(alloc, sketch.0.as_bytes())?,
-        fields,
-        vars,
-    })
+        fields: List::new(alloc),
+        vars: List::new(alloc),
+    };
+    for (name, values) in sketch.1 {
+        let name = Text::from_slice(alloc, name.as_bytes())?;
+        add_member(&mut class, name, *values)?;
+    }
+    Ok(class)
 }
 
 fn classes_of(alloc: Global, sketches: &[Sketch]) -> Result<List<ClassDef>, Memory> {
@@ -42,75 +38,129 @@ fn classes_of(alloc: Global, sketches: &[Sketch]) -> Result<List<ClassDef>, Memo
     Ok(classes)
 }
 
-const SLOT: Sketch = ("slot", &["day", "start"], &[]);
+const SLOT: Sketch = ("slot", &[("day", None), ("start", None)]);
 
-const LESSON: Sketch = ("lesson", &["size"], &[("at", 0)]);
+const LESSON: Sketch = ("lesson", &[("size", None), ("at", Some(0))]);
+
+/// Classes at the limits: the second has sixteen fields, two variables and a name of 32 bytes.
+const WIDEST: &[Sketch] = &[
+    SLOT,
+    (
+        "wide_class_with_32_bytes_as_name",
+        &[
+            ("a", None),
+            ("b", None),
+            ("c", None),
+            ("d", None),
+            ("e", None),
+            ("f", None),
+            ("g", None),
+            ("h", None),
+            ("i", None),
+            ("j", None),
+            ("k", None),
+            ("l", None),
+            ("m", None),
+            ("n", None),
+            ("o", None),
+            ("p", None),
+            ("slot", Some(0)),
+            ("wide_class_with_32_bytes_as_name", Some(0)),
+        ],
+    ),
+    LESSON,
+];
+
+/// Whether the schema's class with this number has this name.
+fn is_named(schema: &Schema, class: u8, name: &str) -> bool {
+    match schema.class(class) {
+        Some(class) => class.name.as_slice() == name.as_bytes(),
+        None => false,
+    }
+}
 
 #[test]
 fn accepts_classes_at_the_limits(rt: HostRuntime) -> Result<(), Fail> {
-    let sixteen_fields: Sketch = (
-        "wide_class_with_32_bytes_as_name",
-        &[
-            "a", "b", "c", "d", "e", "f", "g", "h", "i", "j", "k", "l", "m", "n", "o", "p",
-        ],
-        &[("slot", 0), ("wide_class_with_32_bytes_as_name", 0)],
-    );
-    let schema = Schema::build(classes_of(rt.alloc(), &[SLOT, sixteen_fields, LESSON])?);
-    let schema = schema.ok().ok_or("refused")?;
-    assert_eq!(rt; schema.classes(), 3);
-    let lesson = schema.class(2).ok_or("no class 2")?;
-    assert_eq!(rt; lesson.name.as_slice(), b"lesson".as_slice());
+    let schema = Schema::build(classes_of(rt.alloc(), WIDEST)?)?;
+    assert!(rt; schema.classes() == 3);
+    assert!(rt; is_named(&schema, 2, "lesson"));
     assert!(rt; schema.class(3).is_none());
     Ok(())
 }
 
+/// Seventeen fields.
+const SEVENTEEN: &[(&str, Option<u8>)] = &[
+    ("a", None),
+    ("b", None),
+    ("c", None),
+    ("d", None),
+    ("e", None),
+    ("f", None),
+    ("g", None),
+    ("h", None),
+    ("i", None),
+    ("j", None),
+    ("k", None),
+    ("l", None),
+    ("m", None),
+    ("n", None),
+    ("o", None),
+    ("p", None),
+    ("q", None),
+];
+
+/// Three variables.
+const THREE: &[(&str, Option<u8>)] = &[("x", Some(0)), ("y", Some(0)), ("x", Some(9))];
+
+/// Classes, and the first of their faults.
+const FAULTS: &[(&[Sketch], SchemaFault)] = &[
+    (&[SLOT; 17], SchemaFault::TooManyClasses),
+    (
+        &[SLOT, ("id", THREE), ("wide", SEVENTEEN)],
+        SchemaFault::TooManyFields { class: 2 },
+    ),
+    (
+        &[("id", &[("x", Some(9))]), SLOT, ("many", THREE)],
+        SchemaFault::TooManyVars { class: 2 },
+    ),
+    (
+        &[SLOT, ("lesson", &[("x", Some(9))]), SLOT],
+        SchemaFault::BadName { class: 2 },
+    ),
+    (&[("", &[])], SchemaFault::BadName { class: 0 }),
+    (&[("Slot", &[])], SchemaFault::BadName { class: 0 }),
+    (&[("_slot", &[])], SchemaFault::BadName { class: 0 }),
+    (
+        &[("a_name_of_33_bytes_is_one_too_big", &[])],
+        SchemaFault::BadName { class: 0 },
+    ),
+    (
+        &[SLOT, ("room", &[("id", None)])],
+        SchemaFault::BadName { class: 1 },
+    ),
+    (
+        &[SLOT, ("lesson", &[("at", None), ("at", Some(0))])],
+        SchemaFault::BadName { class: 1 },
+    ),
+    (
+        &[
+            SLOT,
+            LESSON,
+            ("talk", &[("at", Some(0)), ("after", Some(1))]),
+        ],
+        SchemaFault::BadRange { class: 2, var: 1 },
+    ),
+    (
+        &[SLOT, ("lesson", &[("at", Some(2))])],
+        SchemaFault::BadRange { class: 1, var: 0 },
+    ),
+];
+
 #[test]
 fn names_the_first_fault(rt: HostRuntime) -> Result<(), Fail> {
-    let seventeen: &[&str] = &[
-        "a", "b", "c", "d", "e", "f", "g", "h", "i", "j", "k", "l", "m", "n", "o", "p", "q",
-    ];
-    let three: &[(&str, u8)] = &[("x", 0), ("y", 0), ("x", 9)];
-    let cases: &[(&[Sketch], SchemaFault)] = &[
-        (&[SLOT; 17], SchemaFault::TooManyClasses),
-        (
-            &[SLOT, ("id", &[], three), ("wide", seventeen, &[])],
-            SchemaFault::TooManyFields { class: 2 },
-        ),
-        (
-            &[("id", &[], &[("x", 9)]), SLOT, ("many", &[], three)],
-            SchemaFault::TooManyVars { class: 2 },
-        ),
-        (
-            &[SLOT, ("lesson", &[], &[("x", 9)]), SLOT],
-            SchemaFault::BadName { class: 2 },
-        ),
-        (&[("", &[], &[])], SchemaFault::BadName { class: 0 }),
-        (&[("Slot", &[], &[])], SchemaFault::BadName { class: 0 }),
-        (&[("_slot", &[], &[])], SchemaFault::BadName { class: 0 }),
-        (
-            &[("a_name_of_33_bytes_is_one_too_big", &[], &[])],
-            SchemaFault::BadName { class: 0 },
-        ),
-        (
-            &[SLOT, ("room", &["id"], &[])],
-            SchemaFault::BadName { class: 1 },
-        ),
-        (
-            &[SLOT, ("lesson", &["at"], &[("at", 0)])],
-            SchemaFault::BadName { class: 1 },
-        ),
-        (
-            &[SLOT, LESSON, ("talk", &[], &[("at", 0), ("after", 1)])],
-            SchemaFault::BadRange { class: 2, var: 1 },
-        ),
-        (
-            &[SLOT, ("lesson", &[], &[("at", 2)])],
-            SchemaFault::BadRange { class: 1, var: 0 },
-        ),
-    ];
-    for case in cases {
-        let fault = Schema::build(classes_of(rt.alloc(), case.0)?).err();
-        assert_eq!(rt; fault, Some(case.1));
+    for (classes, fault) in FAULTS {
+        let found = Schema::build(classes_of(rt.alloc(), classes)?).err();
+        assert!(rt; found == Some(*fault), "{fault:?} and not {found:?}");
     }
     Ok(())
 }

@@ -1,5 +1,5 @@
 //! Runs many commands over the files of data/: each two of its words are a command and the name of a problem. It prints the
-//! text that each is due, and the number of its status. What it must print was computed by a program of others.
+//! text that each is due, and the number of its status. What it must print was computed by another program.
 #![tactic(auto)]
 
 ghost use Rattle.std.specs.Prelude.{All};

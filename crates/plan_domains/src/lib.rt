@@ -8,5 +8,4 @@ mod tests;
 
 pub use book::{Shipped, shipped_key, shipped_test, shipped_weight};
 pub use making::{ShippedKey, ShippedTest, ShippedWeigh, shipped_rules_of};
-pub use plan_facts::Memory;
 pub use plan_rules::{KeyBody, Row, TestBody, WeighBody};

@@ -1,4 +1,5 @@
 pub mod ById
+pub mod Changes
 pub mod Collected
 pub mod Grouped
 pub mod Nodes

@@ -1,5 +1,5 @@
 -- Rows without their order.
-use Rattle.std.specs.Prelude.{◌≡◌, ℕ, List, ◌++◌, sum_by}
+use Rattle.std.specs.Prelude.{◌≡◌, ◌≢◌, ℕ, List, ◌++◌, AllPairs, sum_by}
 
 -- both lists have the same members, each as often: whatever each member weighs, the lists weigh as much
 pub record AreSame {X : Type 0} (xs ys : List X) : Type 0 where
@@ -8,3 +8,7 @@ pub record AreSame {X : Type 0} (xs ys : List X) : Type 0 where
 -- the old rows with those that came are the new rows with those that went
 abbrev pub Leads : {X : Type 0} → List X → List X → List X → List X → Type 0
 Leads old gone come new = AreSame (old ++ come) (new ++ gone)
+
+-- none stands twice
+abbrev pub AreDifferent : {X : Type 0} → List X → Type 0
+AreDifferent xs = AllPairs (λ one other. one ≢ other) xs

@@ -1,5 +1,5 @@
 // Laws of the rows of streams, on which nodes that keep rows may stand.
-ghost use Rattle.row_laws.specs.Laws.{SameAreRearranged, NodesKeepSameness, GroupsForgetOrder, MeetingForgetsOrder, LeftRowsLead, RightRecordsLead, TestsTurn, OtherGroupsStay, PlansAreById, PairsAreJoins, RowsAreInOrder, SortingRestoresRows, ScoresAreOfRules};
+ghost use Rattle.row_laws.specs.Laws.{ChangesJoin, ChangesCancel, ChangesAreExact, SameAreRearranged, NodesKeepSameness, GroupsForgetOrder, MeetingForgetsOrder, LeftRowsLead, RightRecordsLead, TestsTurn, OtherGroupsStay, PlansAreById, PairsAreJoins, RowsAreInOrder, SortingRestoresRows, ScoresAreOfRules};
 
 /// Rows may be kept in any order: nodes make the same of them but for the order, and groups are the very same.
 pub fn order_may_be_forgotten()
@@ -7,6 +7,13 @@ pub fn order_may_be_forgotten()
     ensures nodes { NodesKeepSameness }
     ensures groups { GroupsForgetOrder }
     ensures meeting { MeetingForgetsOrder }
+{}
+
+/// What went and what came may be gathered over many changes, and then be told just once.
+pub fn changes_add_up()
+    ensures join { ChangesJoin }
+    ensures cancel { ChangesCancel }
+    ensures exact { ChangesAreExact }
 {}
 
 /// Only what went and what came need go through a node: what it makes of them leads from its old rows to its new ones.

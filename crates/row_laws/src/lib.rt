@@ -4,5 +4,6 @@
 mod laws;
 
 pub use laws::{
-    changes_lead_through_nodes, order_comes_back, order_may_be_forgotten, scores_add_up_by_rule,
+    changes_add_up, changes_lead_through_nodes, order_comes_back, order_may_be_forgotten,
+    scores_add_up_by_rule,
 };

@@ -9,180 +9,263 @@ const SLOT: u8 = 1;
 
 const ROOM: u8 = 2;
 
-fn class_of(alloc: Global, name: &str, vars: &[(&'static str, u8)]) -> Result<ClassDef, Memory> {
-    let mut fields = List::new(alloc);
-    fields.push(FieldDef {
-        name: Text::from_slice(alloc, b"size")?,
-        kind: Kind::Number,
-    })?;
-    let mut var_defs = List::new(alloc);
-    for var in vars {
-        var_defs.push(VarDef {
-            name: Text::from_slice(alloc, var.0.as_bytes())?,
-            values: var.1,
-        })?;
-    }
-    Ok(ClassDef {
-        name: Text::from_slice(alloc, name.as_bytes())?,
-        fields,
-        vars: var_defs,
-    })
-}
+/// A class to be made: its name, and its fields and variables, each variable with the class of its values.
+type ClassSketch = (&'static str, &'static [(&'static str, Option<u8>)]);
 
 /// Lessons, each with a slot and a room.
+const CLASSES: &[ClassSketch] = &[
+    (
+        "lesson",
+        &[("size", None), ("slot", Some(SLOT)), ("room", Some(ROOM))],
+    ),
+    ("slot", &[("size", None)]),
+    ("room", &[("size", None)]),
+];
+
+/// Adds a variable with values of this class, or a field.
+fn add_member(class: &mut ClassDef, name: Text, values: Option<u8>) -> Result<(), Memory> {
+    let kind = Kind::Number;
+    match values {
+        Some(values) => class.vars.push(VarDef { name, values }),
+        None => class.fields.push(FieldDef { name, kind }),
+    }
+}
+
+fn class_of(alloc: Global, sketch: &ClassSketch) -> Result<ClassDef, Memory> {
+    let mut class = ClassDef {
+        name: Text::from_slice(alloc, sketch.0.as_bytes())?,
+        fields: List::new(alloc),
+        vars: List::new(alloc),
+    };
+    for (name, values) in sketch.1 {
+        let name = Text::from_slice(alloc, name.as_bytes())?;
+        add_member(&mut class, name, *values)?;
+    }
+    Ok(class)
+}
+
 fn lessons(alloc: Global) -> Result<Schema, Fail> {
     let mut classes = List::new(alloc);
-    classes.push(class_of(alloc, "lesson", &[("slot", SLOT), ("room", ROOM)])?)?;
-    classes.push(class_of(alloc, "slot", &[])?)?;
-    classes.push(class_of(alloc, "room", &[])?)?;
+    for sketch in CLASSES {
+        classes.push(class_of(alloc, sketch)?)?;
+    }
     Ok(Schema::build(classes)?)
 }
 
-fn list_of(alloc: Global, sketches: &[(u32, &'static [Option<u32>])]) -> Result<List<Raw>, Memory> {
+/// A record to be made: its id and values.
+type Sketch = (u32, &'static [Option<u32>]);
+
+/// Lesson 1 with slot 1 and room 1, lesson 2 with slot 2 and no room; slots 1, 2 and 5; rooms 1 and 2.
+const TIMETABLE: &[&[Sketch]] = &[
+    &[(1, &[Some(1), Some(1)]), (2, &[Some(2), None])],
+    &[(1, &[]), (2, &[]), (5, &[])],
+    &[(1, &[]), (2, &[])],
+];
+
+fn raw_of(alloc: Global, sketch: &Sketch) -> Result<Raw, Memory> {
+    Ok(Raw {
+        id: sketch.0,
+        fields: List::from_slice(alloc, &[0])?,
+        values: List::from_slice(alloc, sketch.1)?,
+    })
+}
+
+fn raws_of(alloc: Global, sketches: &[Sketch]) -> Result<List<Raw>, Memory> {
     let mut raws = List::new(alloc);
     for sketch in sketches {
-        raws.push(Raw {
-            id: sketch.0,
-            fields: List::from_slice(alloc, &[0])?,
-            values: List::from_slice(alloc, sketch.1)?,
-        })?;
+        raws.push(raw_of(alloc, sketch)?)?;
     }
     Ok(raws)
 }
 
-/// Lesson 1 with slot 1 and room 1, lesson 2 with slot 2 and no room; slots 1, 2 and 5; rooms 1 and 2.
-fn timetable(alloc: Global, schema: &Schema) -> Result<Plan, Fail> {
+fn lists(alloc: Global) -> Result<List<List<Raw>>, Memory> {
     let mut lists = List::new(alloc);
-    lists.push(list_of(alloc, &[(1, &[Some(1), Some(1)]), (2, &[Some(2), None])])?)?;
-    lists.push(list_of(alloc, &[(1, &[]), (2, &[]), (5, &[])])?)?;
-    lists.push(list_of(alloc, &[(1, &[]), (2, &[])])?)?;
-    Ok(Plan::of(alloc, schema, lists)?)
+    for sketches in TIMETABLE {
+        lists.push(raws_of(alloc, sketches)?)?;
+    }
+    Ok(lists)
 }
 
-fn set(id: u32, var: u8, value: Option<u32>) -> Set {
+fn timetable(alloc: Global, schema: &Schema) -> Result<Plan, Fail> {
+    Ok(Plan::of(alloc, schema, lists(alloc)?)?)
+}
+
+/// A variable of a fact and the value that it is to get: the class and the id of the fact, and the variable.
+type Change = (u8, u32, u8, Option<u32>);
+
+fn set_of(change: &Change) -> Set {
     Set {
-        class: LESSON,
-        id,
-        var,
-        value,
+        class: change.0,
+        id: change.1,
+        var: change.2,
+        value: change.3,
     }
 }
 
-/// A lesson's variable and the value that it is to get.
-type Change = (u32, u8, Option<u32>);
-
-fn edit_of(alloc: Global, changes: &[Change]) -> Result<Edit, Fail> {
-    let mut edit = Edit::new(alloc);
-    for (id, var, value) in changes {
-        if !edit.put(set(*id, *var, *value))? {
-            return Err("a variable that is set twice".into());
+/// Whether the edit has these sets, in this order.
+fn has_sets(edit: &Edit, changes: &[Change]) -> bool {
+    let sets = edit.sets();
+    for (place, change) in changes.iter().enumerate() {
+        if sets.get(place) != Some(&set_of(change)) {
+            return false;
         }
     }
-    Ok(edit)
+    sets.len() == changes.len()
 }
 
-fn values(plan: &Plan, id: u32) -> Result<&[Option<u32>], Fail> {
-    let lesson = plan.raw(LESSON, id).ok_or("no such lesson")?;
-    Ok(lesson.values.as_slice())
+/// Puts all of these into the edit; false where it sets one of their variables already.
+fn put_all(edit: &mut Edit, changes: &[Change]) -> bool {
+    for change in changes {
+        if edit.put(set_of(change)) != Ok(true) {
+            return false;
+        }
+    }
+    true
 }
+
+/// Puts, and whether each is new.
+const PUTS: &[(Change, bool)] = &[
+    ((LESSON, 2, 1, Some(7)), true),
+    ((LESSON, 2, 0, None), true),
+    ((ROOM, 1, 0, None), true),
+    ((LESSON, 1, 1, Some(3)), true),
+    ((LESSON, 2, 1, Some(8)), false),
+    ((LESSON, 1, 1, Some(3)), false),
+    ((LESSON, 3, 0, Some(1)), true),
+    ((ROOM, 1, 0, None), false),
+];
+
+/// The first of those that isn't answered so, by its place.
+fn wrong_put(edit: &mut Edit) -> Option<usize> {
+    for (place, (change, new)) in PUTS.iter().enumerate() {
+        if edit.put(set_of(change)) != Ok(*new) {
+            return Some(place);
+        }
+    }
+    None
+}
+
+/// What is then put, in its order.
+const PUT: &[Change] = &[
+    (LESSON, 1, 1, Some(3)),
+    (LESSON, 2, 0, None),
+    (LESSON, 2, 1, Some(7)),
+    (LESSON, 3, 0, Some(1)),
+    (ROOM, 1, 0, None),
+];
+
+/// The facts that it touches.
+const TOUCHED: &[Touch] = &[
+    Touch {
+        class: LESSON,
+        id: 1,
+    },
+    Touch {
+        class: LESSON,
+        id: 2,
+    },
+    Touch {
+        class: LESSON,
+        id: 3,
+    },
+    Touch { class: ROOM, id: 1 },
+];
 
 #[test]
 fn puts_sets_in_their_order(rt: HostRuntime) -> Result<(), Fail> {
     let mut edit = Edit::new(rt.alloc());
-    let far = Set {
-        class: ROOM,
-        id: 1,
-        var: 0,
-        value: None,
-    };
-    let puts: &[(Set, bool)] = &[
-        (set(2, 1, Some(7)), true),
-        (set(2, 0, None), true),
-        (far, true),
-        (set(1, 1, Some(3)), true),
-        (set(2, 1, Some(8)), false),
-        (set(1, 1, Some(3)), false),
-        (set(3, 0, Some(1)), true),
-        (far, false),
-    ];
-    for (set, new) in puts {
-        assert_eq!(rt; edit.put(*set)?, *new, "{set:?}");
-    }
-    let all = [
-        set(1, 1, Some(3)),
-        set(2, 0, None),
-        set(2, 1, Some(7)),
-        set(3, 0, Some(1)),
-        far,
-    ];
-    assert_eq!(rt; edit.sets(), all.as_slice());
-    let touched = edit.touched()?;
-    let entities = [(LESSON, 1), (LESSON, 2), (LESSON, 3), (ROOM, 1)];
-    assert_eq!(rt; touched.len(), 4);
-    for (place, (class, id)) in entities.into_iter().enumerate() {
-        assert_eq!(rt; touched.get(place), Some(&Touch { class, id }));
-    }
+    assert!(rt; wrong_put(&mut edit) == None);
+    assert!(rt; has_sets(&edit, PUT));
+    assert!(rt; edit.touched()?.as_slice() == TOUCHED);
     Ok(())
+}
+
+/// Edits by name, and whether each is doable.
+const EDITS: &[(&str, &[Change], bool)] = &[
+    ("nothing", &[], false),
+    ("another slot", &[(LESSON, 1, 0, Some(5))], true),
+    ("the same slot", &[(LESSON, 1, 0, Some(1))], false),
+    ("a slot that isn't live", &[(LESSON, 1, 0, Some(3))], false),
+    ("a slot's id for a room", &[(LESSON, 1, 1, Some(5))], false),
+    (
+        "a lesson that isn't live",
+        &[(LESSON, 3, 0, Some(1))],
+        false,
+    ),
+    ("a third variable", &[(LESSON, 1, 2, Some(1))], false),
+    ("a room taken away", &[(LESSON, 1, 1, None)], true),
+    ("a null room kept", &[(LESSON, 2, 1, None)], false),
+    (
+        "one of two differs",
+        &[(LESSON, 1, 0, Some(1)), (LESSON, 2, 1, Some(1))],
+        true,
+    ),
+    (
+        "one of two isn't legal",
+        &[(LESSON, 1, 0, Some(5)), (LESSON, 2, 1, Some(3))],
+        false,
+    ),
+    ("a variable of a slot", &[(SLOT, 1, 0, None)], false),
+];
+
+/// Whether the plan takes an edit of these changes; none where they set a variable twice.
+fn is_doable(alloc: Global, schema: &Schema, plan: &Plan, changes: &[Change]) -> Option<bool> {
+    let mut edit = Edit::new(alloc);
+    if !put_all(&mut edit, changes) {
+        return None;
+    }
+    Some(edit.doable(schema, plan))
 }
 
 #[test]
 fn tells_which_edits_are_doable(rt: HostRuntime) -> Result<(), Fail> {
     let schema = lessons(rt.alloc())?;
     let plan = timetable(rt.alloc(), &schema)?;
-    let cases: &[(&'static str, &'static [Change], bool)] = &[
-        ("nothing", &[], false),
-        ("another slot", &[(1, 0, Some(5))], true),
-        ("the same slot", &[(1, 0, Some(1))], false),
-        ("a slot that isn't live", &[(1, 0, Some(3))], false),
-        ("a slot's id for a room", &[(1, 1, Some(5))], false),
-        ("a lesson that isn't live", &[(3, 0, Some(1))], false),
-        ("a third variable", &[(1, 2, Some(1))], false),
-        ("a room taken away", &[(1, 1, None)], true),
-        ("a null room kept", &[(2, 1, None)], false),
-        (
-            "one of two differs",
-            &[(1, 0, Some(1)), (2, 1, Some(1))],
-            true,
-        ),
-        (
-            "one of two isn't legal",
-            &[(1, 0, Some(5)), (2, 1, Some(3))],
-            false,
-        ),
-    ];
-    for (name, changes, doable) in cases {
-        let edit = edit_of(rt.alloc(), *changes)?;
-        assert_eq!(rt; edit.doable(&schema, &plan), *doable, "{name}");
+    for (name, changes, doable) in EDITS {
+        let answer = is_doable(rt.alloc(), &schema, &plan, changes);
+        assert!(rt; answer == Some(*doable), "{name}");
     }
-    let mut edit = Edit::new(rt.alloc());
-    edit.put(Set {
-        class: SLOT,
-        id: 1,
-        var: 0,
-        value: None,
-    })?;
-    assert!(rt; !edit.doable(&schema, &plan));
     Ok(())
 }
+
+/// Whether the lesson has these values.
+fn holds(plan: &Plan, id: u32, values: &[Option<u32>]) -> bool {
+    match plan.raw(LESSON, id) {
+        Some(lesson) => lesson.values.as_slice() == values,
+        None => false,
+    }
+}
+
+const CHANGES: &[Change] = &[
+    (LESSON, 2, 1, Some(2)),
+    (LESSON, 1, 0, None),
+    (LESSON, 1, 1, Some(2)),
+];
+
+/// What the variables of those held, in the order of sets.
+const BACK: &[Change] = &[
+    (LESSON, 1, 0, Some(1)),
+    (LESSON, 1, 1, Some(1)),
+    (LESSON, 2, 1, None),
+];
 
 #[test]
 fn an_edit_and_its_inverse_give_the_plan_back(rt: HostRuntime) -> Result<(), Fail> {
     let schema = lessons(rt.alloc())?;
     let mut plan = timetable(rt.alloc(), &schema)?;
-    let changes = [(2, 1, Some(2)), (1, 0, None), (1, 1, Some(2))];
-    let edit = edit_of(rt.alloc(), &changes)?;
+    let mut edit = Edit::new(rt.alloc());
+    assert!(rt; put_all(&mut edit, CHANGES));
     assert!(rt; edit.doable(&schema, &plan));
     let back = edit.inverse(&plan)?;
-    let was = [set(1, 0, Some(1)), set(1, 1, Some(1)), set(2, 1, None)];
-    assert_eq!(rt; back.sets(), was.as_slice());
+    assert!(rt; has_sets(&back, BACK));
     edit.apply(&mut plan);
-    assert_eq!(rt; values(&plan, 1)?, [None, Some(2)].as_slice());
-    assert_eq!(rt; values(&plan, 2)?, [Some(2), Some(2)].as_slice());
-    assert_eq!(rt; plan.unplaced(), 1);
+    assert!(rt; holds(&plan, 1, &[None, Some(2)]));
+    assert!(rt; holds(&plan, 2, &[Some(2), Some(2)]));
+    assert!(rt; plan.unplaced() == 1);
     assert!(rt; back.doable(&schema, &plan));
     back.apply(&mut plan);
-    assert_eq!(rt; values(&plan, 1)?, [Some(1), Some(1)].as_slice());
-    assert_eq!(rt; values(&plan, 2)?, [Some(2), None].as_slice());
-    assert_eq!(rt; plan.unplaced(), 1);
+    assert!(rt; holds(&plan, 1, &[Some(1), Some(1)]));
+    assert!(rt; holds(&plan, 2, &[Some(2), None]));
+    assert!(rt; plan.unplaced() == 1);
     Ok(())
 }

@@ -32,16 +32,24 @@ fn cleared(id: u32) -> Set
     }
 }
 
+/// The plan of a domain with no classes.
+fn plan(alloc: Global) -> Result<Plan, Fail> {
+    let schema = Schema::build(List::new(alloc))?;
+    Ok(Plan::of(alloc, &schema, List::new(alloc))?)
+}
+
+/// What `Clears` makes of these words, by its box.
+fn made(alloc: Global, words: &[u32; 8]) -> Result<Option<Edit>, Fail> {
+    let plan = plan(alloc)?;
+    let maker: Box<dyn MoveMaker> = Box::new(alloc, Clears)?;
+    Ok(make_by(alloc, &maker, &plan, words)?)
+}
+
 #[test]
 fn a_maker_in_a_box_makes_an_edit_or_none(rt: HostRuntime) -> Result<(), Fail> {
-    let alloc = rt.alloc();
-    let schema = Schema::build(List::new(alloc))?;
-    let plan = Plan::of(alloc, &schema, List::new(alloc))?;
-    let maker: Box<dyn MoveMaker> = Box::new(alloc, Clears)?;
-    let edit = make_by(alloc, &maker, &plan, &[7, 0, 0, 0, 0, 0, 0, 0])?;
+    assert!(rt; made(rt.alloc(), &[0, 7, 7, 7, 7, 7, 7, 7])?.is_none());
+    let edit = made(rt.alloc(), &[7, 0, 0, 0, 0, 0, 0, 0])?;
     let edit = edit.ok_or("no edit")?;
-    assert_eq!(rt; edit.sets(), [cleared(7)].as_slice());
-    let none = make_by(alloc, &maker, &plan, &[0, 7, 7, 7, 7, 7, 7, 7])?;
-    assert!(rt; none.is_none());
+    assert!(rt; edit.sets() == [cleared(7)].as_slice());
     Ok(())
 }

@@ -17,7 +17,7 @@ impl Model for Text {
 }
 
 impl Text {
-    ghost use Rattle.std.specs.Prelude.{take, drop, ◌≡◌, ◌↔◌, ◌++◌, ◌∷◌, [], List, ℕ, IsTrue, length, slice_get, IfOk, OnOk, OnErr, option_copied, option_to_list};
+    ghost use Rattle.std.specs.Prelude.{take, drop, ◌≡◌, ◌↔◌, ◌++◌, ◌∷◌, [], List, ℕ, IsTrue, IfNone, length, slice_get, IfOk, OnOk, OnErr, option_copied, option_to_list};
     ghost use Rattle.std.specs.Borrow.{Lends, Array, sem, u8 as byte};
     ghost use Rattle.plan_facts.specs.contracts.text.Text.{the_row};
 
@@ -77,7 +77,8 @@ impl Text {
 
     /// Takes the last byte out; none where there is none.
     pub fn pop(&mut self) -> Option<u8>
-        ensures { self.old ≡ self.new ++ option_to_list result }
+        ensures last { self.old ≡ self.new ++ option_to_list result }
+        ensures none { IfNone result (self.old ≡ []) }
     {
         self.bytes.pop()
     }

@@ -9,14 +9,16 @@ pub fn order_may_be_forgotten()
     ensures meeting { MeetingForgetsOrder }
 {}
 
-/// What went and what came may be gathered over many changes, and then be told just once.
+/// What went and what came may be gathered over many changes. Where no row stands twice and none both went and came, just
+/// old rows went and just new ones came.
 pub fn changes_add_up()
     ensures join { ChangesJoin }
     ensures cancel { ChangesCancel }
     ensures exact { ChangesAreExact }
 {}
 
-/// Only what went and what came need go through a node: what it makes of them leads from its old rows to its new ones.
+/// But for groups, what a node makes of the left rows that went and came leads from its old rows to its new ones, and so
+/// does what a join makes of right records. A group whose key no such row has stays.
 pub fn changes_lead_through_nodes()
     ensures left { LeftRowsLead }
     ensures right { RightRecordsLead }
@@ -24,7 +26,7 @@ pub fn changes_lead_through_nodes()
     ensures others { OtherGroupsStay }
 {}
 
-/// The order of a rule's rows comes back by sorting them.
+/// Where the records of each class stand by their ids, the order of a rule's rows comes back by sorting them.
 pub fn order_comes_back()
     ensures plans { PlansAreById }
     ensures pairs { PairsAreJoins }
@@ -32,7 +34,7 @@ pub fn order_comes_back()
     ensures sorted { SortingRestoresRows }
 {}
 
-/// A score hangs on the sum of each rule's match weights alone.
+/// A score is the sum, over the rules, of what the sum of each rule's match weights makes.
 pub fn scores_add_up_by_rule()
     ensures sum { ScoresAreOfRules }
 {}

@@ -1,5 +1,5 @@
 -- What a leg has done so far: its start score and its steps, in order.
-use Rattle.std.specs.Prelude.{ℕ, ◌+◌, List, [], ◌∷◌, ◌++◌, map, fold, length, slice_index_or}
+use Rattle.std.specs.Prelude.{ℕ, List, [], ◌∷◌, ◌++◌, map, fold, length, slice_index_or}
 use Rattle.plan_scores.specs.declared.plan_score.PlanScore.{PlanScore}
 use Rattle.plan_scores.specs.Best.{better_of}
 use Rattle.plan_moves.specs.declared.edit.Touch.{Touch}

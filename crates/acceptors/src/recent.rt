@@ -1,75 +1,78 @@
-ghost use Rattle.std.specs.Prelude.{◌≡◌, ◌≤◌, ◌+◌, ◌%◌, ◌==◌, ◌++◌, ◌∷◌, [], Some, if◌then◌else◌, OnOk, OnErr};
+ghost use Rattle.std.specs.Prelude.{◌≡◌, ◌≤◌, ◌+◌, ◌%◌, ◌==◌, [], ◌∷◌, if◌then◌else◌};
 ghost use Rattle.std.specs.HashMap.{spare};
-ghost use Rattle.std.specs.List.{list_any};
-ghost use Rattle.circular_buffer.specs.Buffer.{buffer, keep_last};
 ghost use Rattle.plan_scores.specs.Best.{better_of};
-ghost use Rattle.plan_moves.specs.declared.edit.Touch.{Touch};
-ghost use Rattle.acceptors.specs.Accept.{is_same};
-ghost use Rattle.acceptors.specs.Recent.{step_in};
+ghost use Rattle.acceptors.specs.Recent.{AreNoted};
 
-use circular_buffer::HeapCircularBuffer;
 use plan_facts::Memory;
 use plan_moves::Touch;
 use plan_scores::PlanScore;
-use plan_settings::AcceptorKind;
+use std::alloc::Global;
 use std::collections::HashMap;
+use std::marker::Model;
 
 /// For each entity that was touched, by class and id, the number of the last step that touched it.
-pub type LastSteps = HashMap<(u8, u32), u32>;
+#[derive(Drop)]
+pub struct LastSteps {
+    steps: HashMap<(u8, u32), u32>,
+}
 
-/// The last step that touched an entity.
-pub fn last_step(last_steps: &LastSteps, touch: &Touch) -> Option<u32>
-    ensures { result ≡ step_in last_steps.now touch.now }
-{
-    last_steps.get(&(touch.class, touch.id)).copied()
+impl Model for LastSteps {
+    ghost use Rattle.acceptors.specs.Recent.{Notes};
+
+    ghost Value = { Notes };
+
+    ghost view = { λ last. last.steps.entries };
+}
+
+impl LastSteps {
+    ghost use Rattle.std.specs.Prelude.{◌≡◌, [], OnOk, OnErr};
+    ghost use Rattle.acceptors.specs.Recent.{step_in, AreNoted, AreSame};
+
+    /// Nothing is noted yet.
+    pub fn new(alloc: Global) -> LastSteps
+        ensures { result ≡ [] }
+    {
+        LastSteps {
+            steps: HashMap::new(alloc),
+        }
+    }
+
+    /// Forgets all that was noted.
+    pub fn clear(&mut self)
+        ensures { self.new ≡ [] }
+    {
+        self.steps.clear();
+    }
+
+    /// The last step that touched an entity.
+    pub fn step_of(&self, touch: &Touch) -> Option<u32>
+        ensures { result ≡ step_in self.now touch.now }
+    {
+        self.steps.get(&(touch.class, touch.id)).copied()
+    }
+
+    /// Notes that a step touched some entities. For want of memory nothing is noted.
+    pub fn note(&mut self, touched: &[Touch], step: u32) -> Result<(), Memory>
+        ensures ok { OnOk result (AreNoted self.old touched.now step self.new) }
+        ensures err { OnErr result (AreSame self.old self.new) }
+    {
+        self.steps.reserve(touched.len())?;
+        for touch in touched {
+            note_one(&mut self.steps, touch, step);
+        }
+        Ok(())
+    }
 }
 
 /// Notes that a step touched an entity, where there is room to note it.
-fn note_one(last_steps: &mut LastSteps, touch: &Touch, step: u32)
-    requires { 1 ≤ spare last_steps.old }
-    ensures noted { (t : Touch) → step_in last_steps.new t ≡ (if is_same touch.now t then Some step else step_in last_steps.old t) }
-    ensures room { spare last_steps.old ≤ spare last_steps.new + 1 }
+fn note_one(steps: &mut HashMap<(u8, u32), u32>, touch: &Touch, step: u32)
+    requires { 1 ≤ spare steps.old }
+    ensures noted { AreNoted steps.old.entries (touch.now ∷ []) step steps.new.entries }
+    ensures room { spare steps.old ≤ spare steps.new + 1 }
 {
-    match last_steps.insert((touch.class, touch.id), step) {
+    match steps.insert((touch.class, touch.id), step) {
         Ok(_) => {}
         Err(_) => unreachable!(),
-    }
-}
-
-/// Notes that a step touched some entities. For want of memory nothing is noted.
-fn note(last_steps: &mut LastSteps, touched: &[Touch], step: u32) -> Result<(), Memory>
-    ensures ok { OnOk result ((t : Touch) → step_in last_steps.new t ≡ (if list_any (λ entity. is_same entity t) touched.now then Some step else step_in last_steps.old t)) }
-    ensures err { OnErr result ((t : Touch) → step_in last_steps.new t ≡ step_in last_steps.old t) }
-{
-    last_steps.reserve(touched.len())?;
-    for touch in touched {
-        note_one(last_steps, touch, step);
-    }
-    Ok(())
-}
-
-/// Keeps what an acceptor of this kind looks back at. For want of memory everything stays.
-pub fn look_back(
-    kind: AcceptorKind,
-    late: &mut HeapCircularBuffer<PlanScore>,
-    score: PlanScore,
-    last_steps: &mut LastSteps,
-    touched: &[Touch],
-    step: u32,
-) -> Result<(), Memory>
-    ensures late { OnOk result (kind ≡ AcceptorKind.Late → late.new.items ≡ keep_last late.old.capacity (late.old.items ++ score ∷ [])) }
-    ensures capacity { late.new.capacity ≡ late.old.capacity }
-    ensures late_err { OnErr result (late.new.items ≡ late.old.items) }
-    ensures touched { OnOk result (kind ≡ AcceptorKind.Tabu → (t : Touch) → step_in last_steps.new t ≡ (if list_any (λ entity. is_same entity t) touched.now then Some step else step_in last_steps.old t)) }
-    ensures touched_err { OnErr result ((t : Touch) → step_in last_steps.new t ≡ step_in last_steps.old t) }
-{
-    match kind {
-        AcceptorKind::Late => {
-            late.push_back(score);
-            Ok(())
-        }
-        AcceptorKind::Tabu => note(last_steps, touched, step),
-        AcceptorKind::Hill | AcceptorKind::StepCount => Ok(()),
     }
 }
 

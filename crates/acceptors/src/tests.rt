@@ -536,10 +536,14 @@ fn touches(alloc: Global, ids: &[u32]) -> Result<Vec<Touch>, Fail> {
 fn after_steps(alloc: Global, case: &Case) -> Result<Acceptor, Fail> {
     let mut acceptor = Acceptor::new(alloc, case.kind, case.size.clamp(1, 10_000))?;
     acceptor.begin(plan_score(case.start));
+    let mut done: u32 = 0;
     for (score, ids) in case.steps {
-        if acceptor.steps < 1_000 {
-            acceptor.after(plan_score(*score), &touches(alloc, ids)?)?;
+        if done >= 1_000 {
+            break;
         }
+        let touched = touches(alloc, ids)?;
+        acceptor.after(plan_score(*score), &touched)?;
+        done += 1;
     }
     Ok(acceptor)
 }

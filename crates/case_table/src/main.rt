@@ -1,17 +1,16 @@
-//! Runs many commands over the files of data/: each two of its words are a command and the name of a problem. It prints the
-//! text that each is due, and the number of its status. What it must print was computed by another program.
+//! Runs many commands over the files of data/: each two of its words are a command and the name of a problem. It
+//! prints the text that each is due, and the number of its status. What it must print was computed by another program.
 #![tactic(auto)]
 
 ghost use Rattle.std.specs.Prelude.{All};
 ghost use Rattle.std.specs.Thread.{IsSync};
 
-use plan_domains::Shipped;
 use plan_facts::Text;
 use plan_json::Domain;
 use plan_ports::{FileShelf, NoGate, OutSink};
 use plan_rules::{Kept, Rules};
 use plan_session::run;
-use shipped_domains::{Act, with_shipped_domains};
+use shipped_domains::{Act, Shipped, with_shipped_domains};
 use std::alloc::Global;
 use std::sync::Wait;
 use std::thread::Threads;

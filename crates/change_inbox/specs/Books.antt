@@ -26,7 +26,8 @@ module _ {T : Type 0} where
   with_entry book entry = record book { entries = book.entries ++ entry ∷ [] }
 
   -- no kind of entry is past its limit, there is room for the rest, and the places of the posts and whether there is a shut are kept
-  pub record IsBook (limits : Limits) (entries : List (Entry T)) (room : ℕ) (places : List ℕ) (post_room : ℕ) (is_shut : Bool) : Type 0 where
+  pub record IsBook (limits : Limits) (entries : List (Entry T)) (room : ℕ) (places : List ℕ) (post_room : ℕ)
+      (is_shut : Bool) : Type 0 where
     pub posts : length (posts_in entries) ≤ limits.posts
     pub cuts : cuts_in entries ≤ limits.cuts
     pub shuts : shuts_in entries ≤ limits.seats

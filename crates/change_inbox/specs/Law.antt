@@ -54,7 +54,15 @@ module _ {T : Type 0} where
 
   -- parts of the inbox with their members, with no ticket
   abbrev pub holding : Limits → ℕ → List (Member T) → Knowledge T
-  holding limits parts members = record { limits = limits; parts = parts; members = members; waits = 0; has = false; ticket = 0; told = [] }
+  holding limits parts members = record {
+    limits = limits;
+    parts = parts;
+    members = members;
+    waits = 0;
+    has = false;
+    ticket = 0;
+    told = [];
+  }
 
   -- a seat between calls
   abbrev pub at_rest : Limits → ℕ → List (Entry T) → Knowledge T
@@ -136,7 +144,14 @@ module _ {T : Type 0} where
 
   -- no two that wait have one ticket
   abbrev pub AreApart : List (Knowledge T) → Type 0
-  AreApart views = (i j : ℕ) (v u : Knowledge T) → get_elem? views i ≡ some v → get_elem? views j ≡ some u → v.waits ≡ 1 → u.waits ≡ 1 → v.ticket ≡ u.ticket → i ≡ j
+  AreApart views =
+      (i j : ℕ) (v u : Knowledge T)
+      → get_elem? views i ≡ some v
+      → get_elem? views j ≡ some u
+      → v.waits ≡ 1
+      → u.waits ≡ 1
+      → v.ticket ≡ u.ticket
+      → i ≡ j
 
   -- the rule
   pub record Law (limits : Limits) (s : State (BookView T) (Knowledge T)) : Type 0 where
@@ -158,7 +173,10 @@ module _ {T : Type 0} where
 
   -- a ticket was drawn
   abbrev pub Drew : Me (BookView T) (Knowledge T) → ℕ → Me (BookView T) (Knowledge T) → Type 0
-  Drew before found after = (ticket : ℕ) × (after ≡ (in_line before.0.limits (number_of before.0) (seen_of before.0) ticket, before.1)) × (found ≡ ticket % turnover)
+  Drew before found after =
+      (ticket : ℕ)
+      × (after ≡ (in_line before.0.limits (number_of before.0) (seen_of before.0) ticket, before.1))
+      × (found ≡ ticket % turnover)
 
   -- the book that a seat finds goes on from what it has seen, with no new entry of its own
   pub record Finds (limits : Limits) (number : ℕ) (seen : List (Entry T)) (book : BookView T) : Type 0 where
@@ -171,12 +189,15 @@ module _ {T : Type 0} where
   -- it is the seat's turn, and it has the journal
   abbrev pub Enters : Me (BookView T) (Knowledge T) → Me (BookView T) (Knowledge T) → Type 0
   Enters before after =
-      (book : BookView T) × (after ≡ (inside before.0.limits (number_of before.0) book.entries before.0.ticket, (0, book) ∷ before.1))
+      (book : BookView T)
+      × (after ≡ (inside before.0.limits (number_of before.0) book.entries before.0.ticket, (0, book) ∷ before.1))
       × Finds before.0.limits (number_of before.0) (seen_of before.0) book
 
   -- where the turn found is the seat's, it enters, and else nothing changes
   abbrev pub Looked : Me (BookView T) (Knowledge T) → ℕ → Me (BookView T) (Knowledge T) → Type 0
-  Looked before found after = (found ≡ before.0.ticket % turnover → Enters before after) × ((found ≡ before.0.ticket % turnover → ⊥) → after ≡ before)
+  Looked before found after =
+      (found ≡ before.0.ticket % turnover → Enters before after)
+      × ((found ≡ before.0.ticket % turnover → ⊥) → after ≡ before)
 
   abbrev pub carried_entries : List (ℕ × BookView T) → List (Entry T)
   carried_entries [] = []
@@ -196,13 +217,17 @@ module _ {T : Type 0} where
   abbrev pub Grows : Limits → ℕ → List (Entry T) → BookView T → Type 0
   Grows limits number seen book =
       (book.limits ≡ limits)
-      × ((book.entries ≡ seen) ⊎ ((e : Entry T) × (book.entries ≡ seen ++ e ∷ []) × (seat_of e ≡ number) × May limits (by_seat number seen) e))
+      × ((book.entries ≡ seen)
+      ⊎ ((e : Entry T) × (book.entries ≡ seen ++ e ∷ []) × (seat_of e ≡ number) × May limits (by_seat number seen) e))
 
   -- the seat has seen the longer of what it had seen and what it was told, which begins with both, and nothing new of its own
   abbrev pub Compared : Me (BookView T) (Knowledge T) → Me (BookView T) (Knowledge T) → Type 0
   Compared before after =
-      (seen : List (Entry T)) × (after ≡ (at_rest before.0.limits (number_of before.0) seen, before.1))
-      × ((seen ≡ seen_of before.0) ⊎ (seen ≡ before.0.told)) × IsPrefix (seen_of before.0) seen × IsPrefix before.0.told seen
+      (seen : List (Entry T))
+      × (after ≡ (at_rest before.0.limits (number_of before.0) seen, before.1))
+      × ((seen ≡ seen_of before.0) ⊎ (seen ≡ before.0.told))
+      × IsPrefix (seen_of before.0) seen
+      × IsPrefix before.0.told seen
       × (by_seat (number_of before.0) seen ≡ by_seat (number_of before.0) (seen_of before.0))
 
   -- a seat between calls has no slot
@@ -212,7 +237,9 @@ module _ {T : Type 0} where
   -- in its turn a seat has seen the journal, and holds the slot, which it has emptied
   abbrev pub IsInside : Me (BookView T) (Knowledge T) → ℕ → List (Entry T) → Me (BookView T) (Knowledge T) → Type 0
   IsInside before word seen me =
-      (ticket : ℕ) × (blank : BookView T) × (me ≡ (inside before.0.limits (number_of before.0) seen ticket, (0, blank) ∷ [])) × (word ≡ ticket % turnover)
+      (ticket : ℕ) × (blank : BookView T)
+      × (me ≡ (inside before.0.limits (number_of before.0) seen ticket, (0, blank) ∷ []))
+      × (word ≡ ticket % turnover)
 
   -- a seat between calls has one part, one member and no slot. It counts its posts, and has seen no more posts than there may be
   pub record IsSeat (me : Me (BookView T) (Knowledge T)) (number posts : ℕ) : Type 0 where

@@ -1,5 +1,5 @@
 -- Inboxes and seats as callers see them, and what a call leaves.
-use Rattle.std.specs.Prelude.{◌≡◌, ℕ, ◌<◌, List, [], ◌∷◌, ◌++◌, length}
+use Rattle.std.specs.Prelude.{◌≡◌, ℕ, ◌<◌, ◌≤◌, List, [], ◌∷◌, ◌++◌, Some, length, slice_get}
 use mathlib.Core.List.{IsPrefix}
 use Rattle.atomic_table.specs.Seated.{TableId}
 use Rattle.change_inbox.specs.declared.entry.Entry.{Entry}
@@ -20,10 +20,19 @@ pub record SeatView (T : Type 0) : Type 0 where
   pub number : ℕ
   pub seen : List (Entry T)
 
+-- an inbox has two words and one slot, and it has seats
+abbrev pub IsInbox : TableId → Limits → Type 0
+IsInbox table limits = (table.words ≡ 2) × (table.slots ≡ 1) × (1 ≤ limits.seats)
+
 module _ {T : Type 0} where
   -- a seat that has seen nothing
   abbrev pub fresh_seat : InboxView → ℕ → SeatView T
   fresh_seat inbox number = record { inbox = inbox; number = number; seen = [] }
+
+  -- so many seats, numbered from 0, which have seen nothing
+  abbrev pub AreFresh : InboxView → ℕ → List (SeatView T) → Type 0
+  AreFresh inbox count seats =
+      (length seats ≡ count) × ((n : ℕ) → n < count → slice_get seats n ≡ Some (fresh_seat inbox n))
 
   -- the entries of a seat
   abbrev pub own_of : SeatView T → List (Entry T)
@@ -41,9 +50,16 @@ module _ {T : Type 0} where
   -- what a post is answered, by what was found: stored where there is no shut and room for a post, else handed back
   abbrev pub Answers : SeatView T → T → List (Entry T) → PostAnswer T → SeatView T → Type 0
   Answers old body found (Stored number) new =
-      (shuts_in found ≡ 0) × (length (posts_in found) < old.inbox.limits.posts) × (number ≡ length (posts_in (own_of old)))
-      × (new ≡ saw old (found ++ post old.number number body ∷ [])) × (own_of new ≡ own_of old ++ post old.number number body ∷ [])
+      (shuts_in found ≡ 0)
+      × (length (posts_in found) < old.inbox.limits.posts)
+      × (number ≡ length (posts_in (own_of old)))
+      × (new ≡ saw old (found ++ post old.number number body ∷ []))
+      × (own_of new ≡ own_of old ++ post old.number number body ∷ [])
   Answers old body found (Full back) new =
-      (shuts_in found ≡ 0) × (length (posts_in found) ≡ old.inbox.limits.posts) × (back ≡ body) × (new ≡ saw old found) × (own_of new ≡ own_of old)
+      (shuts_in found ≡ 0)
+      × (length (posts_in found) ≡ old.inbox.limits.posts)
+      × (back ≡ body)
+      × (new ≡ saw old found)
+      × (own_of new ≡ own_of old)
   Answers old body found (Shut back) new =
       (0 < shuts_in found) × (back ≡ body) × (new ≡ saw old found) × (own_of new ≡ own_of old)

@@ -23,7 +23,8 @@ impl<T> Model for Book<T> {
 
     ghost view = { λ b. record { entries = b.entries.items; limits = b.limits } };
 
-    ghost invariant = { λ b. IsBook b.limits b.entries.items (vec_capacity b.entries) b.places.items (vec_capacity b.places) b.is_shut };
+    ghost invariant = { λ b.
+        IsBook b.limits b.entries.items (vec_capacity b.entries) b.places.items (vec_capacity b.places) b.is_shut };
 }
 
 impl<T: Drop> Book<T> {
@@ -46,7 +47,9 @@ impl<T: Drop> Book<T> {
     }
 
     /// A journal with no room, which takes no memory.
-    pub fn blank(alloc: Global) -> Book<T> {
+    pub fn blank(alloc: Global) -> Book<T>
+        ensures { result ≡ record { entries = []; limits = record { seats = 0; posts = 0; cuts = 0 } } }
+    {
         Book {
             entries: Vec::new(alloc),
             places: Vec::new(alloc),
@@ -59,6 +62,7 @@ impl<T: Drop> Book<T> {
         }
     }
 
+    /// How many posts there are.
     pub fn posts(&self) -> u32
         ensures count { result ≡ length (posts_in self.now.entries) }
         ensures few { result ≤ self.now.limits.posts }
@@ -68,6 +72,7 @@ impl<T: Drop> Book<T> {
         count as u32
     }
 
+    /// Whether there are as many posts as the limits allow.
     pub fn is_full(&self) -> bool
         ensures full { result ≡ nat_le self.now.limits.posts (length (posts_in self.now.entries)) }
         ensures room { OnFalse result (length (posts_in self.now.entries) + 1 < 2 ^ 32) }
@@ -75,6 +80,7 @@ impl<T: Drop> Book<T> {
         self.posts() >= self.limits.posts
     }
 
+    /// Whether there is a shut.
     pub fn is_shut(&self) -> bool
         ensures shut { result ≡ nat_lt 0 (shuts_in self.now.entries) }
         ensures few { length (posts_in self.now.entries) ≤ self.now.limits.posts }
@@ -82,6 +88,7 @@ impl<T: Drop> Book<T> {
         self.is_shut
     }
 
+    /// Puts a post behind the others.
     pub fn add_post(&mut self, seat: u32, number: u32, body: T)
         requires { length (posts_in self.old.entries) < self.old.limits.posts }
         ensures added { self.new ≡ with_entry self.old (post seat number body) }
@@ -92,6 +99,7 @@ impl<T: Drop> Book<T> {
             .push_reserved(Entry::Post { seat, number, body });
     }
 
+    /// Puts a cut behind the others.
     pub fn add_cut(&mut self, seat: u32, boundary: u32)
         requires { cuts_in self.old.entries < self.old.limits.cuts }
         ensures added { self.new ≡ with_entry self.old (cut seat boundary) }
@@ -100,6 +108,7 @@ impl<T: Drop> Book<T> {
         self.entries.push_reserved(Entry::Cut { seat, boundary });
     }
 
+    /// Puts a shut behind the others.
     pub fn add_shut(&mut self, seat: u32)
         requires { shuts_in self.old.entries < self.old.limits.seats }
         ensures added { self.new ≡ with_entry self.old (shut seat) }
@@ -123,6 +132,7 @@ impl<T: Drop> Book<T> {
         }
     }
 
+    /// The journal as it is when the inbox closes.
     pub fn into_journal(self) -> Journal<T>
         ensures entries { result ≡ self.entries }
         ensures few { length (posts_in result) ≤ self.limits.posts }

@@ -22,14 +22,13 @@ pub struct Inbox<T: Kept> {
 }
 
 impl<T: Kept> Model for Inbox<T> {
-    ghost use Rattle.std.specs.Prelude.{◌≡◌, ◌≤◌};
-    ghost use Rattle.change_inbox.specs.Seats.{InboxView};
+    ghost use Rattle.change_inbox.specs.Seats.{InboxView, IsInbox};
 
     ghost Value = { InboxView };
 
     ghost view = { λ i. record { table = i.table.shared.table_id; limits = i.table.shared.key } };
 
-    ghost invariant = { λ i. (i.table.shared.table_id.words ≡ 2) × (i.table.shared.table_id.slots ≡ 1) × (1 ≤ i.table.shared.key.seats) };
+    ghost invariant = { λ i. IsInbox i.table.shared.table_id i.table.shared.key };
 }
 
 impl<T: Kept> Inbox<T> {
@@ -37,7 +36,7 @@ impl<T: Kept> Inbox<T> {
     ghost use mathlib.Core.List.{IsPrefix};
     ghost use Rattle.change_inbox.specs.Entries.{seat_of, by_seat, posts_in, cuts_in, shuts_in};
     ghost use Rattle.change_inbox.specs.Books.{BookView, cut, shut};
-    ghost use Rattle.change_inbox.specs.Seats.{fresh_seat, own_of, saw, GoesOn, Answers};
+    ghost use Rattle.change_inbox.specs.Seats.{own_of, saw, AreFresh, GoesOn, Answers};
     ghost use Rattle.change_inbox.specs.Law.{Rests, IsInside, Finds, Grows, at_rest, number_of, seen_of};
 
     /// An inbox with these seats, numbered from 0, with room for so many posts and cuts.
@@ -49,7 +48,7 @@ impl<T: Kept> Inbox<T> {
     ) -> Result<(Inbox<T>, List<Seat<T>>), Memory>
         requires { 1 ≤ seats }
         ensures limits { IfOk result (λ r. r.0.limits ≡ record { seats = seats; posts = posts; cuts = cuts }) }
-        ensures seats { IfOk result (λ r. (length r.1 ≡ seats) × ((n : ℕ) → n < seats → slice_get r.1 n ≡ Some (fresh_seat r.0 n))) }
+        ensures seats { IfOk result (λ r. AreFresh r.0 seats r.1) }
     {
         let limits = Limits { seats, posts, cuts };
         let mut books = Vec::new(alloc);
@@ -72,7 +71,8 @@ impl<T: Kept> Inbox<T> {
     // Waits for the seat's turn, and takes the journal. The answer has the ticket.
     fn enter<W: Wait>(&self, rt: &W, token: &mut Token<T>) -> (u64, Book<T>)
         requires token { (token.old.table_id ≡ self.now.table) × Rests token.old.me }
-        ensures token { (token.new.table_id ≡ token.old.table_id) × IsInside token.old.me result.0 result.1.entries token.new.me }
+        ensures token { (token.new.table_id ≡ token.old.table_id)
+            × IsInside token.old.me result.0 result.1.entries token.new.me }
         ensures found { Finds token.old.me.0.limits (number_of token.old.me.0) (seen_of token.old.me.0) result.1 }
     {
         let ticket = self.table.shared.fetch_add::<DrawTicket>(token, 0, 1);
@@ -133,7 +133,8 @@ impl<T: Kept> Inbox<T> {
         requires own { seat.old.inbox ≡ self.now }
         requires last { seat.old.number + 1 ≡ self.now.limits.seats }
         requires room { cuts_in (own_of seat.old) < self.now.limits.cuts }
-        ensures cut { (found : List _) × GoesOn seat.old found × (result ≡ length (posts_in found)) × (seat.new ≡ saw seat.old (found ++ cut seat.old.number boundary ∷ [])) }
+        ensures cut { (found : List _) × GoesOn seat.old found × (result ≡ length (posts_in found))
+            × (seat.new ≡ saw seat.old (found ++ cut seat.old.number boundary ∷ [])) }
         ensures own { own_of seat.new ≡ own_of seat.old ++ cut seat.old.number boundary ∷ [] }
         ensures seat { (seat.new.inbox ≡ self.now) × (seat.new.number ≡ seat.old.number) }
         ensures later { IsPrefix seat.old.seen seat.new.seen }
@@ -164,7 +165,8 @@ impl<T: Kept> Inbox<T> {
     pub fn shut<W: Wait>(&self, rt: &W, seat: &mut Seat<T>)
         requires own { seat.old.inbox ≡ self.now }
         requires once { shuts_in (own_of seat.old) ≡ 0 }
-        ensures shut { (found : List _) × GoesOn seat.old found × (seat.new ≡ saw seat.old (found ++ shut seat.old.number ∷ [])) }
+        ensures shut { (found : List _) × GoesOn seat.old found
+            × (seat.new ≡ saw seat.old (found ++ shut seat.old.number ∷ [])) }
         ensures own { own_of seat.new ≡ own_of seat.old ++ shut seat.old.number ∷ [] }
         ensures seat { (seat.new.inbox ≡ self.now) × (seat.new.number ≡ seat.old.number) }
         ensures later { IsPrefix seat.old.seen seat.new.seen }

@@ -20,7 +20,11 @@ impl<T> Model for Seat<T> {
 
     ghost Value = { SeatView T };
 
-    ghost view = { λ s. record { inbox = record { table = s.token.table_id; limits = s.token.me.0.limits }; number = s.number; seen = seen_of s.token.me.0 } };
+    ghost view = { λ s. record {
+      inbox = record { table = s.token.table_id; limits = s.token.me.0.limits };
+      number = s.number;
+      seen = seen_of s.token.me.0;
+    } };
 
     ghost invariant = { λ s. IsSeat s.token.me s.number s.posts };
 }

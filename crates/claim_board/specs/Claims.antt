@@ -6,7 +6,8 @@ use lib.ListN.{get_elem?}
 use Rattle.atomic_table.specs.Table.{State, Me}
 use Rattle.claim_board.specs.declared.claims.Claims.{Claims}
 use Rattle.claim_board.specs.declared.claims.Size.{Size}
-use Rattle.claim_board.specs.Boards.{times, once_below}
+use Rattle.atomic_table.specs.Seated.{TableId}
+use Rattle.claim_board.specs.Boards.{BoardView, times, once_below}
 
 -- these parts of a board, with what they drew, and how many of them found none left
 abbrev pub claims : Size → ℕ → List ℕ → ℕ → Claims
@@ -54,10 +55,22 @@ pub record Given (size : Size) (s : State (Unit {0}) Claims) : Type 0 where
   pub most : slice_index s.words 0 ≤ size.limit + total (λ v. v.ends) s.views
   pub each : (j : ℕ) (v : Claims) → get_elem? s.views j ≡ some v → Fits size (slice_index s.words 0) v
 
+-- which board passes of this table and size draw from
+abbrev pub board_of : TableId → Size → BoardView
+board_of table size = record { table = table; limit = size.limit; seats = size.seats }
+
+-- a board has one word and no slot, its size says its limit, and it has passes
+abbrev pub IsBoard : TableId → Size → ℕ → Type 0
+IsBoard table size limit = (table.words ≡ 1) × (table.slots ≡ 0) × (size.limit ≡ limit) × (1 ≤ size.seats)
+
+-- the pass that drew a number more
+abbrev pub drew_more : Claims → ℕ → Claims
+drew_more v x = record v { draws = v.draws ++ x ∷ [] }
+
 -- a draw took the number found, which is above its draws before, or it found none left
 abbrev pub Drew : Me (Unit {0}) Claims → ℕ → Me (Unit {0}) Claims → Type 0
 Drew before found after =
-    (found < before.0.size.limit → (after ≡ (record before.0 { draws = before.0.draws ++ found ∷ [] }, before.1)) × All (λ x. x < found) before.0.draws)
+    (found < before.0.size.limit → (after ≡ (drew_more before.0 found, before.1)) × All (λ x. x < found) before.0.draws)
     × (before.0.size.limit ≤ found → after ≡ (record before.0 { ends = before.0.ends + 1 }, before.1))
 
 -- a pass has one part and no slot, its draws increase, and it has an end where it is done

@@ -13,14 +13,18 @@ pub struct Board {
 }
 
 impl Model for Board {
-    ghost use Rattle.std.specs.Prelude.{◌≡◌, ◌≤◌};
     ghost use Rattle.claim_board.specs.Boards.{BoardView};
+    ghost use Rattle.claim_board.specs.Claims.{IsBoard};
 
     ghost Value = { BoardView };
 
-    ghost view = { λ b. record { table = b.table.shared.table_id; limit = b.limit; seats = b.table.shared.key.seats } };
+    ghost view = { λ b. record {
+      table = b.table.shared.table_id;
+      limit = b.limit;
+      seats = b.table.shared.key.seats;
+    } };
 
-    ghost invariant = { λ b. (b.table.shared.table_id.words ≡ 1) × (b.table.shared.table_id.slots ≡ 0) × (b.table.shared.key.limit ≡ b.limit) × (1 ≤ b.table.shared.key.seats) };
+    ghost invariant = { λ b. IsBoard b.table.shared.table_id b.table.shared.key b.limit };
 }
 
 /// The right to draw from its board. Its meaning is the list of its own draws.
@@ -32,17 +36,21 @@ pub struct Pass {
 
 impl Model for Pass {
     ghost use Rattle.claim_board.specs.Boards.{PassView};
-    ghost use Rattle.claim_board.specs.Claims.{IsPass};
+    ghost use Rattle.claim_board.specs.Claims.{IsPass, board_of};
 
     ghost Value = { PassView };
 
-    ghost view = { λ p. record { board = record { table = p.seat.table_id; limit = p.seat.me.0.size.limit; seats = p.seat.me.0.size.seats }; draws = p.seat.me.0.draws; is_done = p.is_done } };
+    ghost view = { λ p. record {
+      board = board_of p.seat.table_id p.seat.me.0.size;
+      draws = p.seat.me.0.draws;
+      is_done = p.is_done;
+    } };
 
     ghost invariant = { λ p. IsPass p.seat.me p.is_done };
 }
 
 impl Board {
-    ghost use Rattle.std.specs.Prelude.{◌≡◌, ℕ, ◌+◌, ◌<◌, ◌≤◌, false, true, length, replicate, IfOk, IfSome, IfNone, All, Any};
+    ghost use Rattle.std.specs.Prelude.{◌≡◌, ℕ, ◌+◌, ◌<◌, ◌≤◌, false, true, length, replicate, IfOk, IfSome, OnSome, IfNone, All, Any};
     ghost use Rattle.std.specs.List.Sorted.{IsStrictlyIncreasing};
     ghost use Rattle.claim_board.specs.Boards.{all_draws, fresh_pass, with_draw, done, times, once_below, next_after};
 
@@ -70,7 +78,9 @@ impl Board {
     pub fn draw(&self, pass: &mut Pass) -> Option<u32>
         requires { pass.old.board ≡ self.now }
         ensures board { pass.new.board ≡ self.now }
-        ensures some { IfSome result (λ x. (x < self.now.limit) × (pass.old.is_done ≡ false) × (pass.new ≡ with_draw pass.old x)) }
+        ensures below { IfSome result (λ x. x < self.now.limit) }
+        ensures goes_on { OnSome result (pass.old.is_done ≡ false) }
+        ensures drawn { IfSome result (λ x. pass.new ≡ with_draw pass.old x) }
         ensures above { IfSome result (λ x. (next_after pass.old.draws ≤ x) × (next_after pass.new.draws ≡ x + 1)) }
         ensures none { IfNone result (pass.new ≡ done pass.old) }
         ensures increasing { IsStrictlyIncreasing pass.new.draws }

@@ -1,7 +1,7 @@
 pub mod BestLaws
-pub mod OrderLaws
-pub mod Sizes
-pub mod TodoLaws
 pub mod GoOnLaws
-pub mod Steps
 pub mod PlacingLaws
+pub mod Ranks
+pub mod Standing
+pub mod Steps
+pub mod TodoLaws

@@ -1,2 +1,5 @@
 pub mod Best
-pub mod Judge
+pub mod Order
+pub mod Placed
+pub mod Rooms
+pub mod Standing

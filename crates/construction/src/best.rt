@@ -1,153 +1,132 @@
-ghost use Rattle.std.specs.Prelude.{◌≡◌, ◌++◌, ◌∷◌, [], IsTrue, All, IfOk, OnOk, OnErr, IfSome, List, map, option_map, is_some, None, Some, true, length, slice_get, slice_index, ◌<◌};
+ghost use Rattle.std.specs.Prelude.{◌≡◌, ◌++◌, ◌∷◌, [], IsTrue, IfOk, OnOk, IfSome, List, None, Some, option_map, true, length, ◌<◌};
 ghost use Rattle.std.specs.Option.{option_map_or};
-ghost use Rattle.plan_facts.specs.Plan.{IsPlan, class_of, ids_of, range_of};
-ghost use Rattle.plan_scores.specs.Order.{is_better_plan};
+ghost use Rattle.plan_facts.specs.Plan.{IsPlan, class_of};
 ghost use Rattle.plan_moves.specs.declared.edit.Set.{Set};
 ghost use Rattle.plan_moves.specs.Edits.{AreInOrder, applied, is_legal};
 ghost use Rattle.plan_rules.specs.Range.{sizes_of};
-ghost use Rattle.plan_search.specs.Posed.{whole_score};
-ghost use Rattle.construction.specs.Judge.{MayJudge};
-ghost use Rattle.plan_search.specs.Placing.{best_edit, choices_of, combinations, null_places, values_of};
-ghost use Rattle.construction.specs.Best.{IsBestOf, MayGoOn};
+ghost use Rattle.plan_scores.specs.Order.{is_better_plan};
+ghost use Rattle.plan_search.specs.Placing.{best_edit, null_places};
+ghost use Rattle.plan_moves.specs.Entities.{values_of};
+ghost use Rattle.plan_search.specs.Todo.{is_to_place};
+ghost use Rattle.construction.specs.Best.{Considers, MayGoOn, best_in, best_with, completions};
+ghost use Rattle.construction.specs.Standing.{IsAtRest, score_under};
 
-use crate::judge::Judge;
-use plan_facts::{List, Memory, Plan};
-use plan_moves::{Edit, Set, Touch};
-use plan_recalc::score_alone;
-use plan_rules::{Book, Kept, Rules};
+use crate::judge::score_after;
+use plan_facts::{List, Memory, Plan, Schema};
+use plan_moves::{Edit, Set, Touch, choice_at, choice_count};
+use plan_rules::{Book, Judges, Rules, Steps};
 use plan_scores::PlanScore;
+use score_director::Director;
 use std::alloc::Global;
+use std::mem;
+use std::sync::ledger::Ledger;
 
-/// The best edit so far, and the plan's score after it.
+/// The best edit that was found, and the plan's score after it.
 #[derive(Drop)]
 pub struct Best {
     pub edit: Edit,
     pub score: PlanScore,
 }
 
-/// The edit of sets that stand in order.
-fn edit_of(alloc: Global, sets: &[Set]) -> Result<Edit, Memory>
-    requires { AreInOrder sets.now }
-    ensures { IfOk result (λ edit. edit ≡ sets.now) }
-{
-    let mut edit = Edit::new(alloc);
-    for set in sets {
-        edit.put(*set)?;
-    }
-    Ok(edit)
+/// The sets that are being combined, the edit that was judged last, and the best one so far with the score after it.
+/// Each edit is made in the memory of an earlier one.
+#[derive(Drop)]
+pub struct Trials {
+    sets: List<Set>,
+    edit: Edit,
+    best: Edit,
+    score: Option<PlanScore>,
 }
 
-/// The score after an edit. The plan stays as it was.
-fn judged<B: Book>(
-    alloc: Global,
-    judge: &Judge<'_, B>,
-    plan: &mut Plan,
-    edit: &Edit,
-) -> Result<PlanScore, Memory>
-    requires plan { IsPlan plan.old }
-    requires legal { IsTrue (is_legal plan.old edit.now) }
-    requires keeps { ⟦<Rules<B> as Kept>⟧.keeps judge.now.rules.now }
-    requires may { MayJudge judge.now.rules.now.defs judge.now.weights.now judge.now.rules.now.caps (sizes_of plan.old) }
-    ensures score { IfOk result (λ score. score ≡ whole_score B.meaning judge.now.rules.now.defs judge.now.weights.now (applied plan.old edit.now)) }
-    ensures same { plan.new ≡ plan.old }
+/// Trials of which none was made.
+fn no_trials(alloc: Global) -> Trials
+    ensures sets { result.sets ≡ [] }
+    ensures best { best_in result ≡ None }
 {
-    let back = edit.inverse(plan)?;
-    edit.apply(plan);
-    let score = score_alone(alloc, judge.rules, plan, judge.weights);
-    back.apply(plan);
-    score
-}
-
-/// Judges one more edit, and keeps it where it is better than the best so far.
-fn consider<B: Book>(
-    alloc: Global,
-    judge: &Judge<'_, B>,
-    plan: &mut Plan,
-    sets: &[Set],
-    best: &mut Option<Best>,
-) -> Result<(), Memory>
-    requires plan { IsPlan plan.old }
-    requires order { AreInOrder sets.now }
-    requires legal { IsTrue (is_legal plan.old sets.now) }
-    requires keeps { ⟦<Rules<B> as Kept>⟧.keeps judge.now.rules.now }
-    requires may { MayJudge judge.now.rules.now.defs judge.now.weights.now judge.now.rules.now.caps (sizes_of plan.old) }
-    ensures best { (edits : List (List Set)) → IsBestOf (whole_score B.meaning judge.now.rules.now.defs judge.now.weights.now) plan.old edits best.old →
-        OnOk result (IsBestOf (whole_score B.meaning judge.now.rules.now.defs judge.now.weights.now) plan.old (edits ++ sets.now ∷ []) best.new) }
-    ensures same { plan.new ≡ plan.old }
-{
-    let edit = edit_of(alloc, sets)?;
-    let score = judged(alloc, judge, plan, &edit)?;
-    if is_better(best, &score) {
-        *best = Some(Best { edit, score });
+    Trials {
+        sets: List::new(alloc),
+        edit: Edit::new(alloc),
+        best: Edit::new(alloc),
+        score: None,
     }
-    Ok(())
 }
 
 /// Whether the score is better than the best so far.
-fn is_better(best: &Option<Best>, score: &PlanScore) -> bool
-    ensures { result ≡ option_map_or (λ b. is_better_plan score.now b.score) best.now true }
+fn is_better(trials: &Trials, score: &PlanScore) -> bool
+    ensures { result ≡ option_map_or (λ b. is_better_plan score.now b.score) (best_in trials.now) true }
 {
-    match best {
-        Some(best) => *score > best.score,
+    match trials.score {
+        Some(best) => *score > best,
         None => true,
     }
 }
 
-/// The set of an entity's variable to the value at a place of its range.
-fn choice_at(plan: &Plan, entity: Touch, var: u8, place: usize) -> Set
-    requires plan { IsPlan plan.now }
-    requires there { var < length (class_of plan.now entity.class).ranges }
-    requires place { place < length (ids_of plan.now (range_of plan.now entity.class var)) }
-    ensures choice { slice_get (choices_of plan.now entity var) place ≡ Some result }
-    ensures set { result ≡ record { class = entity.class; id = entity.id; var = var; value = Some (slice_index (ids_of plan.now (range_of plan.now entity.class var)) place) } }
+/// Makes the edit that was judged last the best one.
+fn keep_last(trials: &mut Trials, score: PlanScore)
+    ensures best { best_in trials.new ≡ Some (best_with trials.old.edit score) }
+    ensures kept { trials.new.sets ≡ trials.old.sets }
 {
-    let range = plan.ranges(entity.class)[var as usize];
-    Set {
-        class: entity.class,
-        id: entity.id,
-        var,
-        value: Some(plan.ids(range)[place]),
+    mem::swap(&mut trials.edit, &mut trials.best);
+    trials.score = Some(score);
+}
+
+/// Judges one more edit, and keeps it where it is better than the best so far.
+fn consider<B: Book, L: Ledger>(
+    director: &mut Director<B>,
+    rules: &Rules<B>,
+    schema: &Schema,
+    trials: &mut Trials,
+    steps: &mut Steps<L>,
+) -> Result<(), Memory>
+    requires judges { ⟦<Rules<B> as Judges>⟧.judges rules.now director.old.weights (sizes_of director.old.plan) }
+    requires rest { IsAtRest rules.now.defs director.old }
+    requires plan { IsPlan director.old.plan }
+    requires order { AreInOrder trials.old.sets }
+    requires legal { IsTrue (is_legal director.old.plan trials.old.sets) }
+    ensures best { OnOk result (Considers B.meaning director.old trials.old trials.new (trials.old.sets ∷ [])) }
+    ensures same { director.new ≡ director.old }
+    ensures kept { trials.new.sets ≡ trials.old.sets }
+{
+    trials.edit.fill(trials.sets.as_slice())?;
+    let score = score_after(director, rules, schema, &trials.edit, steps)?;
+    if is_better(trials, &score) {
+        keep_last(trials, score);
     }
+    Ok(())
 }
 
-/// How many values a variable of an entity may be set to.
-fn choice_count(plan: &Plan, entity: Touch, var: u8) -> usize
-    requires plan { IsPlan plan.now }
-    requires there { var < length (class_of plan.now entity.class).ranges }
-    ensures { result ≡ length (choices_of plan.now entity var) }
-{
-    let range = plan.ranges(entity.class)[var as usize];
-    plan.ids(range).len()
-}
-
-/// Judges the edits that add to these sets one choice for each of the entity's variables, which are null.
-fn consider_all<B: Book>(
-    alloc: Global,
-    judge: &Judge<'_, B>,
-    plan: &mut Plan,
+/// Judges the edits that add to the sets one choice for each of the entity's variables, which are null.
+fn consider_all<B: Book, L: Ledger>(
+    director: &mut Director<B>,
+    rules: &Rules<B>,
+    schema: &Schema,
     entity: Touch,
     vars: &[u8],
-    sets: &mut Vec<Set>,
-    best: &mut Option<Best>,
+    trials: &mut Trials,
+    steps: &mut Steps<L>,
 ) -> Result<(), Memory>
-    requires plan { IsPlan plan.old }
-    requires keeps { ⟦<Rules<B> as Kept>⟧.keeps judge.now.rules.now }
-    requires may { MayJudge judge.now.rules.now.defs judge.now.weights.now judge.now.rules.now.caps (sizes_of plan.old) }
-    requires go_on { MayGoOn plan.old entity vars.now sets.old.items }
-    ensures best { (edits : List (List Set)) → IsBestOf (whole_score B.meaning judge.now.rules.now.defs judge.now.weights.now) plan.old edits best.old →
-        OnOk result (IsBestOf (whole_score B.meaning judge.now.rules.now.defs judge.now.weights.now) plan.old
-        (edits ++ map (λ chosen. sets.old.items ++ chosen) (combinations (map (choices_of plan.old entity) vars.now))) best.new) }
-    ensures same { plan.new ≡ plan.old }
-    ensures kept { OnOk result (sets.new.items ≡ sets.old.items) }
+    requires judges { ⟦<Rules<B> as Judges>⟧.judges rules.now director.old.weights (sizes_of director.old.plan) }
+    requires rest { IsAtRest rules.now.defs director.old }
+    requires plan { IsPlan director.old.plan }
+    requires go_on { MayGoOn director.old.plan entity vars.now trials.old.sets }
+    ensures best { let more = completions director.old.plan entity vars.now trials.old.sets in
+        OnOk result (Considers B.meaning director.old trials.old trials.new more) }
+    ensures same { director.new ≡ director.old }
+    ensures kept { OnOk result (trials.new.sets ≡ trials.old.sets) }
 {
     let [var, others @ ..] = vars else {
-        return consider(alloc, judge, plan, sets, best);
+        consider(director, rules, schema, trials, steps)?;
+        return Ok(());
     };
-    'choices: for place in 0..choice_count(plan, entity, *var) {
-        let choice = choice_at(plan, entity, *var, place);
-        sets.push(choice)?;
-        consider_all(alloc, judge, plan, entity, others, sets, best)?;
-        sets.pop();
+    'choices: for place in 0..choice_count(director.plan(), entity.class, *var) {
+        trials.sets.push(Set {
+            class: entity.class,
+            id: entity.id,
+            var: *var,
+            value: choice_at(director.plan(), entity.class, *var, place),
+        })?;
+        consider_all(director, rules, schema, entity, others, trials, steps)?;
+        trials.sets.pop();
     }
     Ok(())
 }
@@ -169,32 +148,51 @@ fn nulls_of(alloc: Global, plan: &Plan, entity: Touch) -> Result<List<u8>, Memor
     Ok(vars)
 }
 
-/// The best of the edits that place an entity, with the score after it; none where a null variable has no value to
-/// choose. The plan stays as it was.
-pub fn best_of<B: Book>(
-    alloc: Global,
-    judge: &Judge<'_, B>,
-    plan: &mut Plan,
-    entity: Touch,
-) -> Result<Option<Best>, Memory>
-    requires keeps { ⟦<Rules<B> as Kept>⟧.keeps judge.now.rules.now }
-    requires may { MayJudge judge.now.rules.now.defs judge.now.weights.now judge.now.rules.now.caps (sizes_of plan.old) }
-    ensures edit { IfOk result (λ best. option_map (λ b. b.edit) best ≡ best_edit (whole_score B.meaning judge.now.rules.now.defs judge.now.weights.now) plan.old entity) }
-    ensures score { IfOk result (λ best. IfSome best (λ b. b.score ≡ whole_score B.meaning judge.now.rules.now.defs judge.now.weights.now (applied plan.old b.edit))) }
-    ensures legal { IfOk result (λ best. IfSome best (λ b. IsTrue (is_legal plan.old b.edit))) }
-    ensures same { plan.new ≡ plan.old }
+/// The best edit of all that were judged.
+fn best_found(trials: Trials) -> Option<Best>
+    ensures { result ≡ best_in trials }
 {
-    let vars = nulls_of(alloc, plan, entity)?;
-    let mut sets = Vec::new(alloc);
-    let mut best = None;
+    let Trials {
+        best: edit,
+        score,
+        ..
+    } = trials;
+    match score {
+        Some(score) => Some(Best { edit, score }),
+        None => None,
+    }
+}
+
+/// The best of the edits that place an entity, with the score after it; none where a null variable has no choice. All
+/// stays as before.
+pub fn best_of<B: Book, L: Ledger>(
+    alloc: Global,
+    director: &mut Director<B>,
+    rules: &Rules<B>,
+    schema: &Schema,
+    entity: Touch,
+    steps: &mut Steps<L>,
+) -> Result<Option<Best>, Memory>
+    requires judges { ⟦<Rules<B> as Judges>⟧.judges rules.now director.old.weights (sizes_of director.old.plan) }
+    requires rest { IsAtRest rules.now.defs director.old }
+    requires waits { IsTrue (is_to_place director.old.plan entity) }
+    ensures edit { let score = score_under B.meaning director.old in
+        IfOk result (λ best. option_map (λ b. b.edit) best ≡ best_edit score director.old.plan entity) }
+    ensures score { let score = score_under B.meaning director.old in
+        IfOk result (λ best. IfSome best (λ b. b.score ≡ score (applied director.old.plan b.edit))) }
+    ensures legal { IfOk result (λ best. IfSome best (λ b. IsTrue (is_legal director.old.plan b.edit))) }
+    ensures same { director.new ≡ director.old }
+{
+    let vars = nulls_of(alloc, director.plan(), entity)?;
+    let mut trials = no_trials(alloc);
     consider_all(
-        alloc,
-        judge,
-        plan,
+        director,
+        rules,
+        schema,
         entity,
         vars.as_slice(),
-        &mut sets,
-        &mut best,
+        &mut trials,
+        steps,
     )?;
-    Ok(best)
+    Ok(best_found(trials))
 }

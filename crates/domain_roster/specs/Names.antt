@@ -15,7 +15,7 @@ leave = 2
 abbrev pub wish : ℕ
 wish = 3
 
--- the keys of a shift: its worker's id, its day, the day after it, its start, its end, its minutes
+-- the keys of a shift that has a worker: its worker's id, its day, the day after it, its start, its end, its minutes
 abbrev pub by_worker : ℕ
 by_worker = 16
 
@@ -33,6 +33,10 @@ by_end = 20
 
 abbrev pub by_minutes : ℕ
 by_minutes = 24
+
+-- the key of a shift, be there a worker or not: how many minutes it lasts
+abbrev pub by_duration : ℕ
+by_duration = 26
 
 -- the key of an employee: the id
 abbrev pub by_employee : ℕ
@@ -71,6 +75,9 @@ begins_early = 21
 abbrev pub ends_late : ℕ
 ends_late = 22
 
+abbrev pub has_no_worker : ℕ
+has_no_worker = 23
+
 -- the weighers
 abbrev pub by_shifts_too_many : ℕ
 by_shifts_too_many = 16
@@ -84,7 +91,7 @@ by_minutes_too_many = 18
 -- the numbers of all tests, keys and weighers
 abbrev pub roster_numbers : Numbers
 roster_numbers = record {
-  tests = 16 ∷ 17 ∷ 18 ∷ 19 ∷ 20 ∷ 21 ∷ 22 ∷ [];
-  keys = 16 ∷ 17 ∷ 18 ∷ 19 ∷ 20 ∷ 21 ∷ 22 ∷ 23 ∷ 24 ∷ 25 ∷ [];
+  tests = 16 ∷ 17 ∷ 18 ∷ 19 ∷ 20 ∷ 21 ∷ 22 ∷ 23 ∷ [];
+  keys = 16 ∷ 17 ∷ 18 ∷ 19 ∷ 20 ∷ 21 ∷ 22 ∷ 23 ∷ 24 ∷ 25 ∷ 26 ∷ [];
   weighs = 16 ∷ 17 ∷ 18 ∷ [];
 }

@@ -1,23 +1,21 @@
 ghost use Rattle.std.specs.Prelude.{◌≡◌, ◌≤◌};
 ghost use Rattle.plan_rules.specs.Meaning.{IsKeyNumber};
-ghost use Rattle.domain_words.specs.Numbers.{both};
-ghost use Rattle.domain_roster.specs.Closures.{roster_test, roster_key, roster_weight, roster_number, leaves_short_rest};
+ghost use Rattle.domain_words.specs.Numbers.{both, weight_cap};
+ghost use Rattle.domain_roster.specs.Closures.{roster_test, roster_key, roster_weight, roster_number};
+ghost use Rattle.domain_roster.specs.Closures.{leaves_short_rest};
 
 use crate::names::{
-    BEGINS_EARLY, BY_ASKED_DAY, BY_ASKING_EMPLOYEE, BY_DAY, BY_DAYS_TOO_MANY, BY_EMPLOYEE, BY_END,
-    BY_FIRST_NUMBER, BY_MINUTES, BY_MINUTES_TOO_MANY, BY_NEXT_DAY, BY_SHIFTS_TOO_MANY, BY_START,
-    BY_WORKER, CAP, DAYS_ARE_TOO_MANY, ENDS_LATE, MINUTES_ARE_TOO_MANY, REST_IS_SHORT,
-    SHIFTS_ARE_TOO_MANY, SKILLS_DIFFER,
+    BEGINS_EARLY, BY_ASKED_DAY, BY_ASKING_EMPLOYEE, BY_DAY, BY_DAYS_TOO_MANY, BY_DURATION,
+    BY_EMPLOYEE, BY_END, BY_FIRST_NUMBER, BY_MINUTES, BY_MINUTES_TOO_MANY, BY_NEXT_DAY,
+    BY_SHIFTS_TOO_MANY, BY_START, BY_WORKER, DAYS_ARE_TOO_MANY, ENDS_LATE, HAS_NO_WORKER,
+    MINUTES_ARE_TOO_MANY, REST_IS_SHORT, SHIFTS_ARE_TOO_MANY, SKILLS_DIFFER,
 };
 use crate::shifts::{
-    asked_day_at, asking_employee_at, day_at, employee_at, end_at, max_at, minutes_at, next_day_at,
-    skill_at, start_at, worker_at, worker_skill_at,
+    DAY_MINUTES, asked_day_at, asking_employee_at, day_at, duration_at, employee_at, end_at,
+    is_open_at, max_at, minutes_at, next_day_at, skill_at, start_at, worker_at, worker_skill_at,
 };
-use domain_words::{are_different, clipped_excess, is_above, key_or_zero, number_at};
+use domain_words::{are_different, excess_weight, is_above, key_or_zero, number_at};
 use plan_rules::Row;
-
-/// The minutes of a day.
-const A_DAY: i64 = 1440;
 
 /// The least rest, in minutes, between the shifts of two days.
 const REST: i64 = 600;
@@ -47,6 +45,7 @@ pub fn test_value(number: u16, row: &Row) -> bool
         MINUTES_ARE_TOO_MANY => is_above(number_at(row, 1), Some(MINUTES)),
         BEGINS_EARLY => is_above(Some(EARLY), number_at(row, 2)),
         ENDS_LATE => is_above(number_at(row, 2), Some(LATE)),
+        HAS_NO_WORKER => is_open_at(row, 0),
         _ => false,
     }
 }
@@ -56,7 +55,7 @@ fn leaves_short_rest(from: Option<i64>, up_to: Option<i64>) -> bool
     ensures { result ≡ both leaves_short_rest from up_to }
 {
     match (from, up_to) {
-        (Some(from), Some(up_to)) => from.saturating_sub(up_to) > A_DAY - REST,
+        (Some(from), Some(up_to)) => from.saturating_sub(up_to) > i64::from(DAY_MINUTES) - REST,
         _ => false,
     }
 }
@@ -85,6 +84,7 @@ fn number_of_key(number: u16, row: &Row) -> Option<i64>
         BY_ASKED_DAY => asked_day_at(row, 0),
         BY_MINUTES => Some(i64::from(minutes_at(row, 0))),
         BY_FIRST_NUMBER => number_at(row, 0),
+        BY_DURATION => Some(i64::from(duration_at(row, 0))),
         _ => None,
     }
 }
@@ -93,12 +93,12 @@ fn number_of_key(number: u16, row: &Row) -> Option<i64>
 /// row isn't of its form.
 pub fn weight_value(number: u16, row: &Row) -> u32
     ensures value { result ≡ roster_weight number row.now }
-    ensures range { result ≤ 10000 }
+    ensures range { result ≤ weight_cap }
 {
     match number {
-        BY_SHIFTS_TOO_MANY => clipped_excess(CAP, number_at(row, 1), max_at(row, 2)),
-        BY_DAYS_TOO_MANY => clipped_excess(CAP, number_at(row, 1), Some(DAYS)),
-        BY_MINUTES_TOO_MANY => clipped_excess(CAP, number_at(row, 1), Some(MINUTES)),
+        BY_SHIFTS_TOO_MANY => excess_weight(number_at(row, 1), max_at(row, 2)),
+        BY_DAYS_TOO_MANY => excess_weight(number_at(row, 1), Some(DAYS)),
+        BY_MINUTES_TOO_MANY => excess_weight(number_at(row, 1), Some(MINUTES)),
         _ => 0,
     }
 }

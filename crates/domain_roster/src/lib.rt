@@ -10,8 +10,8 @@ mod shifts;
 #[cfg(test)]
 mod tests;
 
-pub use classes::schema;
+pub use classes::{open_schema, schema};
 pub use closures::{key_value, test_value, weight_value};
 pub use maker::Maker;
-pub use names::{CAP, KEYS, TESTS, WEIGHERS};
-pub use rules::defs;
+pub use names::numbers;
+pub use rules::{defs, harder, open_defs};

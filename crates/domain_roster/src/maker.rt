@@ -1,5 +1,5 @@
 use crate::names::SHIFT;
-use domain_words::{fill, gives, picked};
+use domain_words::{fact_picked, gives};
 use plan_facts::{Memory, Plan};
 use plan_moves::{Edit, MoveMaker};
 
@@ -17,13 +17,13 @@ impl MoveMaker for Maker {
     ghost made = { λ _ plan words. roster_made plan words };
 
     fn make(&self, plan: &Plan, words: &[u32; 8], into: &mut Edit) -> Result<bool, Memory> {
-        let Some(one) = picked(plan, SHIFT, words[2]) else {
+        let Some(one) = fact_picked(plan, SHIFT, words[2]) else {
             return Ok(false);
         };
-        let Some(other) = picked(plan, SHIFT, words[3]) else {
+        let Some(other) = fact_picked(plan, SHIFT, words[3]) else {
             return Ok(false);
         };
-        let Some(third) = picked(plan, SHIFT, words[4]) else {
+        let Some(third) = fact_picked(plan, SHIFT, words[4]) else {
             return Ok(false);
         };
         if one.id == other.id || one.id == third.id || other.id == third.id {
@@ -34,7 +34,7 @@ impl MoveMaker for Maker {
             gives(SHIFT, WORKER, other, third),
             gives(SHIFT, WORKER, third, one),
         ];
-        fill(into, &sets)?;
+        into.fill(&sets)?;
         Ok(true)
     }
 }

@@ -1,5 +1,22 @@
-/// The numbers of the tests.
-pub const TESTS: [u16; 7] = [
+ghost use Rattle.std.specs.Prelude.{◌≡◌};
+ghost use Rattle.domain_words.specs.Handed.{numbers_in};
+ghost use Rattle.domain_roster.specs.Names.{roster_numbers};
+
+use domain_words::ClosureNumbers;
+
+/// The numbers of all tests, keys and weighers, in order.
+pub fn numbers() -> ClosureNumbers
+    ensures { numbers_in result ≡ roster_numbers }
+{
+    ClosureNumbers {
+        tests: &TESTS,
+        keys: &KEYS,
+        weighers: &WEIGHERS,
+    }
+}
+
+/// All tests.
+const TESTS: [u16; 8] = [
     SKILLS_DIFFER,
     REST_IS_SHORT,
     SHIFTS_ARE_TOO_MANY,
@@ -7,10 +24,11 @@ pub const TESTS: [u16; 7] = [
     MINUTES_ARE_TOO_MANY,
     BEGINS_EARLY,
     ENDS_LATE,
+    HAS_NO_WORKER,
 ];
 
-/// The numbers of the keys.
-pub const KEYS: [u16; 10] = [
+/// All keys.
+const KEYS: [u16; 11] = [
     BY_WORKER,
     BY_DAY,
     BY_NEXT_DAY,
@@ -21,13 +39,11 @@ pub const KEYS: [u16; 10] = [
     BY_ASKED_DAY,
     BY_MINUTES,
     BY_FIRST_NUMBER,
+    BY_DURATION,
 ];
 
-/// The numbers of the weighers.
-pub const WEIGHERS: [u16; 3] = [BY_SHIFTS_TOO_MANY, BY_DAYS_TOO_MANY, BY_MINUTES_TOO_MANY];
-
-/// The greatest weight that a weigher gives.
-pub const CAP: u32 = 10_000;
+/// All weighers.
+const WEIGHERS: [u16; 3] = [BY_SHIFTS_TOO_MANY, BY_DAYS_TOO_MANY, BY_MINUTES_TOO_MANY];
 
 /// The classes.
 pub(crate) const EMPLOYEE: u8 = 0;
@@ -38,7 +54,7 @@ pub(crate) const LEAVE: u8 = 2;
 
 pub(crate) const WISH: u8 = 3;
 
-/// The keys of a shift.
+/// The keys of a shift that has a worker.
 pub(crate) const BY_WORKER: u16 = 16;
 
 pub(crate) const BY_DAY: u16 = 17;
@@ -50,6 +66,9 @@ pub(crate) const BY_START: u16 = 19;
 pub(crate) const BY_END: u16 = 20;
 
 pub(crate) const BY_MINUTES: u16 = 24;
+
+/// The key of a shift, be there a worker or not.
+pub(crate) const BY_DURATION: u16 = 26;
 
 /// The key of an employee.
 pub(crate) const BY_EMPLOYEE: u16 = 21;
@@ -76,6 +95,8 @@ pub(crate) const MINUTES_ARE_TOO_MANY: u16 = 20;
 pub(crate) const BEGINS_EARLY: u16 = 21;
 
 pub(crate) const ENDS_LATE: u16 = 22;
+
+pub(crate) const HAS_NO_WORKER: u16 = 23;
 
 /// The weighers.
 pub(crate) const BY_SHIFTS_TOO_MANY: u16 = 16;

@@ -1,9 +1,17 @@
 ghost use Rattle.std.specs.Prelude.{◌≡◌};
-ghost use Rattle.domain_roster.specs.Shifts.{day_at, next_day_at, start_at, end_at, minutes_at, skill_at, worker_at, worker_skill_at, employee_at, max_at, asking_employee_at, asked_day_at};
+ghost use Rattle.domain_roster.specs.Shifts.{day_at, next_day_at, start_at, end_at, minutes_at, duration_at};
+ghost use Rattle.domain_roster.specs.Shifts.{skill_at, worker_at, worker_skill_at, is_open_at, employee_at, max_at};
+ghost use Rattle.domain_roster.specs.Shifts.{asking_employee_at, asked_day_at};
 
 use crate::names::{EMPLOYEE, LEAVE, SHIFT, WISH};
-use domain_words::{clipped_excess, field_at, held_field_at, held_id_at, id_at};
+use domain_words::{
+    clipped_excess, field_at, given_field_at, held_field_at, held_id_at, id_at, is_null_at,
+};
+use plan_facts::FIELD_LIMIT;
 use plan_rules::Row;
+
+/// The minutes of a day: how many a shift lasts at most.
+pub const DAY_MINUTES: u16 = 1440;
 
 /// The fields of an employee.
 const SKILL_OF_EMPLOYEE: usize = 0;
@@ -28,16 +36,26 @@ const ASKING_EMPLOYEE: usize = 0;
 const ASKED_DAY: usize = 1;
 
 /// The greatest day.
-const GREATEST_DAY: i64 = 1_000_000_000;
-
-/// How many minutes a shift lasts at most.
-const A_DAY: u32 = 1440;
+const GREATEST_DAY: i64 = FIELD_LIMIT;
 
 /// How many minutes the shift at a place of the row lasts, from 0 to 1440; 0 where there is no shift with a worker.
 pub fn minutes_at(row: &Row, place: usize) -> u32
     ensures { result ≡ minutes_at row.now place }
 {
-    clipped_excess(A_DAY, end_at(row, place), start_at(row, place))
+    clipped_excess(
+        u32::from(DAY_MINUTES),
+        end_at(row, place),
+        start_at(row, place),
+    )
+}
+
+/// How many minutes the shift at a place lasts, be there a worker or not; 0 where there is no shift.
+pub fn duration_at(row: &Row, place: usize) -> u32
+    ensures { result ≡ duration_at row.now place }
+{
+    let start = given_field_at(row, place, SHIFT, START);
+    let end = given_field_at(row, place, SHIFT, END);
+    clipped_excess(u32::from(DAY_MINUTES), end, start)
 }
 
 /// The day of the shift at a place of the row, from 0; none where there is no shift with a worker.
@@ -87,6 +105,13 @@ pub fn worker_skill_at(row: &Row, place: usize) -> Option<i64>
     ensures { result ≡ worker_skill_at row.now place }
 {
     held_field_at(row, place, SHIFT, WORKER, SKILL_OF_EMPLOYEE)
+}
+
+/// Whether the shift at a place has no worker.
+pub fn is_open_at(row: &Row, place: usize) -> bool
+    ensures { result ≡ is_open_at row.now place }
+{
+    is_null_at(row, place, SHIFT, WORKER)
 }
 
 /// The id of the employee at a place.

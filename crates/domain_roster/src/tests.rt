@@ -1,7 +1,9 @@
 ghost use Rattle.std.specs.Prelude.{◌≡◌, IfOk, length};
 
+mod rules;
+
 use super::*;
-use plan_facts::{List, Memory, Plan, Raw, Rec, Value};
+use plan_facts::{List, Memory, Plan, Raw, Rec, Schema, Value};
 use plan_moves::{Edit, MoveMaker, Set};
 use plan_rules::{Part, Row};
 use std::alloc::Global;
@@ -92,32 +94,44 @@ fn row_of(alloc: Global, sketch: &RowSketch) -> Result<Row, Memory> {
     }
 }
 
+/// The greatest key.
+const MAX: i64 = 1_000_000_000;
+
 /// Rows, and what the keys from 16 on read of each.
-const KEYS_READ: [(RowSketch, [i64; 11]); 8] = [
+const KEYS_READ: [(RowSketch, [i64; 12]); 8] = [
     (
         One(Filled([3, 420, 900])),
-        [9, 3, 4, 420, 900, 0, 0, 0, 480, 0, 0],
+        [9, 3, 4, 420, 900, 0, 0, 0, 480, 0, 480, 0],
     ),
     (
-        One(Filled([1_000_000_000, 900, 420])),
-        [9, 1_000_000_000, 1_000_000_000, 900, 420, 0, 0, 0, 0, 0, 0],
+        One(Filled([MAX, 900, 420])),
+        [9, MAX, MAX, 900, 420, 0, 0, 0, 0, 0, 0, 0],
     ),
     (
         One(Filled([3, 0, 1441])),
-        [9, 3, 4, 0, 1441, 0, 0, 0, 1440, 0, 0],
+        [9, 3, 4, 0, 1441, 0, 0, 0, 1440, 0, 1440, 0],
     ),
-    (One(Unfilled([3, 420, 900])), [0; 11]),
-    (One(Fact(0, 5, [8, 2])), [0, 0, 0, 0, 0, 5, 0, 0, 0, 0, 0]),
-    (One(Fact(2, 1, [9, 3])), [0, 0, 0, 0, 0, 0, 9, 3, 0, 0, 0]),
-    (One(Fact(3, 1, [9, 3])), [0, 0, 0, 0, 0, 0, 9, 3, 0, 0, 0]),
     (
-        One(Num(-1_000_000_001)),
-        [0, 0, 0, 0, 0, 0, 0, 0, 0, -1_000_000_000, 0],
+        One(Unfilled([3, 420, 900])),
+        [0, 0, 0, 0, 0, 0, 0, 0, 0, 0, 480, 0],
     ),
+    (
+        One(Fact(0, 5, [8, 2])),
+        [0, 0, 0, 0, 0, 5, 0, 0, 0, 0, 0, 0],
+    ),
+    (
+        One(Fact(2, 1, [9, 3])),
+        [0, 0, 0, 0, 0, 0, 9, 3, 0, 0, 0, 0],
+    ),
+    (
+        One(Fact(3, 1, [9, 3])),
+        [0, 0, 0, 0, 0, 0, 9, 3, 0, 0, 0, 0],
+    ),
+    (One(Num(-MAX - 1)), [0, 0, 0, 0, 0, 0, 0, 0, 0, -MAX, 0, 0]),
 ];
 
-fn expect_keys(rt: &impl Abort, row: &Row, wanted: &[i64; 11]) {
-    for (number, wanted) in (16..27).zip(wanted.iter()) {
+fn expect_keys(rt: &impl Abort, row: &Row, wanted: &[i64; 12]) {
+    for (number, wanted) in (16..28).zip(wanted.iter()) {
         assert_eq!(rt; key_value(number, row), *wanted);
     }
 }
@@ -133,7 +147,10 @@ fn keys_read_their_numbers(rt: HostRuntime) -> Result<(), Fail> {
 const LATE: Sketch = Filled([3, 420, 900]);
 
 /// Rows, and which of the tests from 16 on they pass.
-const PASSED: [(RowSketch, &[u16]); 8] = [
+const PASSED: [(RowSketch, &[u16]); 11] = [
+    (One(LATE), &[16]),
+    (One(Unfilled([3, 420, 900])), &[23]),
+    (One(Fact(0, 9, [8, 2])), &[]),
     (Two(LATE, Filled([4, 59, 480])), &[16, 17]),
     (Two(LATE, Filled([4, 60, 480])), &[16]),
     (Three(9, 3, Fact(0, 9, [8, 2])), &[18]),
@@ -145,7 +162,7 @@ const PASSED: [(RowSketch, &[u16]); 8] = [
 ];
 
 fn expect_passed(rt: &impl Abort, row: &Row, wanted: &[u16]) {
-    for number in 16..24 {
+    for number in 16..25 {
         assert_eq!(rt; test_value(number, row), wanted.contains(&number));
     }
 }
@@ -184,6 +201,7 @@ fn raw(alloc: Global, id: u32, fields: &[i64], values: &[Option<u32>]) -> Result
         id,
         fields: List::from_slice(alloc, fields)?,
         values: List::from_slice(alloc, values)?,
+        pinned: false,
     })
 }
 
@@ -228,7 +246,33 @@ fn the_maker_moves_workers_on(rt: HostRuntime) -> Result<(), Fail> {
 }
 
 #[test]
-fn there_are_eleven_rules(rt: HostRuntime) -> Result<(), Fail> {
-    assert_eq!(rt; defs(rt.alloc())?.len(), 11);
+fn harder_shifts_are_the_longer_ones(rt: HostRuntime) -> Result<(), Fail> {
+    let harder = harder(rt.alloc())?;
+    let pairs = harder.as_slice();
+    assert_eq!(rt; pairs.len(), 1);
+    assert!(rt; pairs[0].class == 1 && pairs[0].key == 26);
+    let all = numbers();
+    assert_eq!(rt; all.tests, [16, 17, 18, 19, 20, 21, 22, 23].as_slice());
+    assert_eq!(rt;
+        all.keys,
+        [16, 17, 18, 19, 20, 21, 22, 23, 24, 25, 26].as_slice()
+    );
+    assert_eq!(rt; all.weighers, [16, 17, 18].as_slice());
+    Ok(())
+}
+
+/// Whether the worker of a shift may stay null; none where it isn't the one variable of a shift.
+fn may_stay_open(schema: &Schema) -> Option<bool> {
+    match schema.class(1)?.vars.as_slice() {
+        [worker] => Some(worker.nullable),
+        _ => None,
+    }
+}
+
+#[test]
+fn only_in_the_open_roster_a_worker_may_stay_null(rt: HostRuntime) -> Result<(), Fail> {
+    let alloc = rt.alloc();
+    assert_eq!(rt; may_stay_open(&schema(alloc)?), Some(false));
+    assert_eq!(rt; may_stay_open(&open_schema(alloc)?), Some(true));
     Ok(())
 }

@@ -2,9 +2,9 @@
 use Rattle.std.proofs.Common.{◌≡◌, None, refl}
 use Rattle.plan_rules.specs.Faults.{rules_fault}
 use Rattle.domain_timetable.specs.Names.{timetable_numbers}
-use Rattle.domain_timetable.specs.Tables.{timetable_rules}
+use Rattle.domain_timetable.specs.Tables.{timetable_classes, timetable_rules, timetable_harder}
 
--- the rules over four classes are accepted with all closures
-pub rules_accepted : rules_fault 4 timetable_numbers timetable_rules ≡ None
+-- the rules are accepted over its classes with all its closures and its harder keys
+pub rules_accepted : rules_fault timetable_classes timetable_numbers timetable_rules timetable_harder ≡ None
 unfolding rules_fault
 rules_accepted = refl

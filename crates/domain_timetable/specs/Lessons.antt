@@ -1,7 +1,8 @@
--- What the timetable's closures read off a row, from its place: none where the row has no such record there.
+-- What the timetable's closures read off a row, from its place: none where the row has no such record there, or one with
+-- a null variable.
 use Rattle.std.specs.Prelude.{ℕ, ℤ, List, Option}
 use Rattle.plan_rules.specs.declared.row.Part.{Part}
-use Rattle.domain_words.specs.Read.{field_at, held_field_at, held_id_at}
+use Rattle.domain_words.specs.Read.{field_at, given_field_at, held_field_at, held_id_at}
 use Rattle.domain_timetable.specs.Names.{lesson, block}
 
 -- the subject of the lesson at a place
@@ -19,6 +20,10 @@ group_at row place = field_at row place lesson 2
 -- how many take part in it
 abbrev pub size_at : List Part → ℕ → Option ℤ
 size_at row place = field_at row place lesson 3
+
+-- how many take part in the lesson at a place, be its variables null or not
+abbrev pub given_size_at : List Part → ℕ → Option ℤ
+given_size_at row place = given_field_at row place lesson 3
 
 -- the id of its slot
 abbrev pub slot_at : List Part → ℕ → Option ℤ

@@ -15,7 +15,7 @@ lesson = 2
 abbrev pub block : ℕ
 block = 3
 
--- the keys of a lesson: its slot's id, its room's id, its teacher, its group, its slot's day, its subject
+-- the keys of a lesson that is placed: its slot's id, its room's id, its teacher, its group, its slot's day, its subject
 abbrev pub by_slot : ℕ
 by_slot = 0
 
@@ -33,6 +33,10 @@ by_day = 4
 
 abbrev pub by_subject : ℕ
 by_subject = 5
+
+-- the key of a lesson, be it placed or not: how many take part
+abbrev pub by_size : ℕ
+by_size = 8
 
 -- the keys of a block: its teacher and its day
 abbrev pub by_away_teacher : ℕ
@@ -65,6 +69,6 @@ by_lessons_too_many = 1
 abbrev pub timetable_numbers : Numbers
 timetable_numbers = record {
   tests = 0 ∷ 1 ∷ 2 ∷ 3 ∷ [];
-  keys = 0 ∷ 1 ∷ 2 ∷ 3 ∷ 4 ∷ 5 ∷ 6 ∷ 7 ∷ [];
+  keys = 0 ∷ 1 ∷ 2 ∷ 3 ∷ 4 ∷ 5 ∷ 6 ∷ 7 ∷ 8 ∷ [];
   weighs = 0 ∷ 1 ∷ [];
 }

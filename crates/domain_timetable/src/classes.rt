@@ -1,8 +1,9 @@
 ghost use Rattle.std.specs.Prelude.{◌≡◌, IfOk};
-ghost use Rattle.domain_timetable.specs.Tables.{timetable_classes, timeslot_class, room_class, lesson_class, block_class};
+ghost use Rattle.domain_timetable.specs.Tables.{timetable_classes, timeslot_class, room_class};
+ghost use Rattle.domain_timetable.specs.Tables.{lesson_class, block_class};
 
 use crate::names::{ROOM, TIMESLOT};
-use domain_words::class;
+use domain_words::{Variable, class};
 use plan_facts::{ClassDef, Kind, List, Memory, Schema};
 use std::alloc::Global;
 
@@ -57,12 +58,19 @@ fn lesson(alloc: Global) -> Result<ClassDef, Memory>
         ("group", Kind::Name),
         ("size", Kind::Number),
     ];
-    class(
-        alloc,
-        "lesson",
-        &fields,
-        &[("slot", TIMESLOT), ("room", ROOM)],
-    )
+    let vars = [
+        Variable {
+            name: "slot",
+            values: TIMESLOT,
+            nullable: false,
+        },
+        Variable {
+            name: "room",
+            values: ROOM,
+            nullable: false,
+        },
+    ];
+    class(alloc, "lesson", &fields, &vars)
 }
 
 /// A day on which a teacher is away.

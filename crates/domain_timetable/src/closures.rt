@@ -1,19 +1,18 @@
 ghost use Rattle.std.specs.Prelude.{◌≡◌, ◌≤◌};
 ghost use Rattle.plan_rules.specs.Meaning.{IsKeyNumber};
+ghost use Rattle.domain_words.specs.Numbers.{weight_cap};
 ghost use Rattle.domain_timetable.specs.Closures.{timetable_test, timetable_key, timetable_weight, timetable_number};
 
 use crate::lessons::{
-    away_day_at, away_teacher_at, capacity_at, day_at, end_at, group_at, room_at, size_at, slot_at,
-    start_at, subject_at, teacher_at,
+    away_day_at, away_teacher_at, capacity_at, day_at, end_at, given_size_at, group_at, room_at,
+    size_at, slot_at, start_at, subject_at, teacher_at,
 };
 use crate::names::{
     BY_AWAY_DAY, BY_AWAY_TEACHER, BY_DAY, BY_GROUP, BY_LESSONS_TOO_MANY, BY_MISSING_SEATS, BY_ROOM,
-    BY_SLOT, BY_SUBJECT, BY_TEACHER, CAP, DAY_IS_TOO_FULL, FOLLOWS_SOON, ROOM_IS_TOO_SMALL,
+    BY_SIZE, BY_SLOT, BY_SUBJECT, BY_TEACHER, DAY_IS_TOO_FULL, FOLLOWS_SOON, ROOM_IS_TOO_SMALL,
     ROOMS_DIFFER,
 };
-use domain_words::{
-    are_different, clipped_excess, is_above, is_soon_after, key_or_zero, number_at,
-};
+use domain_words::{are_different, excess_weight, is_above, is_soon_after, key_or_zero, number_at};
 use plan_rules::Row;
 
 /// The greatest gap, in minutes, after which a lesson follows another one soon.
@@ -58,6 +57,7 @@ fn number_of_key(number: u16, row: &Row) -> Option<i64>
         BY_SUBJECT => subject_at(row, 0),
         BY_AWAY_TEACHER => away_teacher_at(row, 0),
         BY_AWAY_DAY => away_day_at(row, 0),
+        BY_SIZE => given_size_at(row, 0),
         _ => None,
     }
 }
@@ -66,11 +66,11 @@ fn number_of_key(number: u16, row: &Row) -> Option<i64>
 /// row isn't of its form.
 pub fn weight_value(number: u16, row: &Row) -> u32
     ensures value { result ≡ timetable_weight number row.now }
-    ensures range { result ≤ 10000 }
+    ensures range { result ≤ weight_cap }
 {
     match number {
-        BY_MISSING_SEATS => clipped_excess(CAP, size_at(row, 0), capacity_at(row, 0)),
-        BY_LESSONS_TOO_MANY => clipped_excess(CAP, number_at(row, 2), Some(LESSONS_OF_A_DAY)),
+        BY_MISSING_SEATS => excess_weight(size_at(row, 0), capacity_at(row, 0)),
+        BY_LESSONS_TOO_MANY => excess_weight(number_at(row, 2), Some(LESSONS_OF_A_DAY)),
         _ => 0,
     }
 }

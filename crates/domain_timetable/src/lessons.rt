@@ -1,8 +1,10 @@
 ghost use Rattle.std.specs.Prelude.{◌≡◌};
-ghost use Rattle.domain_timetable.specs.Lessons.{subject_at, teacher_at, group_at, size_at, slot_at, day_at, start_at, end_at, room_at, capacity_at, away_teacher_at, away_day_at};
+ghost use Rattle.domain_timetable.specs.Lessons.{subject_at, teacher_at, group_at, size_at, given_size_at, slot_at};
+ghost use Rattle.domain_timetable.specs.Lessons.{day_at, start_at, end_at, room_at, capacity_at};
+ghost use Rattle.domain_timetable.specs.Lessons.{away_teacher_at, away_day_at};
 
 use crate::names::{BLOCK, LESSON};
-use domain_words::{field_at, held_field_at, held_id_at};
+use domain_words::{field_at, given_field_at, held_field_at, held_id_at};
 use plan_rules::Row;
 
 /// The fields of a timeslot.
@@ -60,6 +62,13 @@ pub fn size_at(row: &Row, place: usize) -> Option<i64>
     ensures { result ≡ size_at row.now place }
 {
     field_at(row, place, LESSON, SIZE)
+}
+
+/// How many take part in the lesson at a place, be it placed or not.
+pub fn given_size_at(row: &Row, place: usize) -> Option<i64>
+    ensures { result ≡ given_size_at row.now place }
+{
+    given_field_at(row, place, LESSON, SIZE)
 }
 
 /// The id of the slot of the lesson at a place.

@@ -13,5 +13,5 @@ mod tests;
 pub use classes::schema;
 pub use closures::{key_value, test_value, weight_value};
 pub use maker::Maker;
-pub use names::{CAP, KEYS, TESTS, WEIGHERS};
-pub use rules::defs;
+pub use names::numbers;
+pub use rules::{defs, harder};

@@ -1,5 +1,5 @@
 use crate::names::LESSON;
-use domain_words::{fill, gives, picked};
+use domain_words::{fact_picked, gives};
 use plan_facts::{Memory, Plan};
 use plan_moves::{Edit, MoveMaker};
 
@@ -17,10 +17,10 @@ impl MoveMaker for Maker {
     ghost made = { λ _ plan words. timetable_made plan words };
 
     fn make(&self, plan: &Plan, words: &[u32; 8], into: &mut Edit) -> Result<bool, Memory> {
-        let Some(one) = picked(plan, LESSON, words[2]) else {
+        let Some(one) = fact_picked(plan, LESSON, words[2]) else {
             return Ok(false);
         };
-        let Some(other) = picked(plan, LESSON, words[3]) else {
+        let Some(other) = fact_picked(plan, LESSON, words[3]) else {
             return Ok(false);
         };
         if one.id == other.id {
@@ -30,7 +30,7 @@ impl MoveMaker for Maker {
             gives(LESSON, SLOT, one, other),
             gives(LESSON, SLOT, other, one),
         ];
-        fill(into, &sets)?;
+        into.fill(&sets)?;
         Ok(true)
     }
 }

@@ -1,13 +1,30 @@
-/// The numbers of the tests.
-pub const TESTS: [u16; 4] = [
+ghost use Rattle.std.specs.Prelude.{◌≡◌};
+ghost use Rattle.domain_words.specs.Handed.{numbers_in};
+ghost use Rattle.domain_timetable.specs.Names.{timetable_numbers};
+
+use domain_words::ClosureNumbers;
+
+/// The numbers of all tests, keys and weighers, in order.
+pub fn numbers() -> ClosureNumbers
+    ensures { numbers_in result ≡ timetable_numbers }
+{
+    ClosureNumbers {
+        tests: &TESTS,
+        keys: &KEYS,
+        weighers: &WEIGHERS,
+    }
+}
+
+/// All tests.
+const TESTS: [u16; 4] = [
     ROOM_IS_TOO_SMALL,
     ROOMS_DIFFER,
     FOLLOWS_SOON,
     DAY_IS_TOO_FULL,
 ];
 
-/// The numbers of the keys.
-pub const KEYS: [u16; 8] = [
+/// All keys.
+const KEYS: [u16; 9] = [
     BY_SLOT,
     BY_ROOM,
     BY_TEACHER,
@@ -16,13 +33,11 @@ pub const KEYS: [u16; 8] = [
     BY_SUBJECT,
     BY_AWAY_TEACHER,
     BY_AWAY_DAY,
+    BY_SIZE,
 ];
 
-/// The numbers of the weighers.
-pub const WEIGHERS: [u16; 2] = [BY_MISSING_SEATS, BY_LESSONS_TOO_MANY];
-
-/// The greatest weight that a weigher gives.
-pub const CAP: u32 = 10_000;
+/// All weighers.
+const WEIGHERS: [u16; 2] = [BY_MISSING_SEATS, BY_LESSONS_TOO_MANY];
 
 /// The classes.
 pub(crate) const TIMESLOT: u8 = 0;
@@ -33,7 +48,7 @@ pub(crate) const LESSON: u8 = 2;
 
 pub(crate) const BLOCK: u8 = 3;
 
-/// The keys of a lesson.
+/// The keys of a lesson that is placed.
 pub(crate) const BY_SLOT: u16 = 0;
 
 pub(crate) const BY_ROOM: u16 = 1;
@@ -45,6 +60,9 @@ pub(crate) const BY_GROUP: u16 = 3;
 pub(crate) const BY_DAY: u16 = 4;
 
 pub(crate) const BY_SUBJECT: u16 = 5;
+
+/// The key of a lesson, be it placed or not.
+pub(crate) const BY_SIZE: u16 = 8;
 
 /// The keys of a block.
 pub(crate) const BY_AWAY_TEACHER: u16 = 6;

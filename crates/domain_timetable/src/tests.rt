@@ -107,14 +107,14 @@ fn row_of(alloc: Global, sketch: &Sketch) -> Result<Row, Memory> {
 }
 
 /// Rows, and what the keys from 0 on read of each.
-const KEYS_READ: [(Sketch, [i64; 9]); 3] = [
-    (Lesson, [2, 3, 6, 7, 1, 5, 0, 0, 0]),
-    (Block, [0, 0, 0, 0, 0, 0, 6, 1, 0]),
-    (Homeless, [0; 9]),
+const KEYS_READ: [(Sketch, [i64; 10]); 3] = [
+    (Lesson, [2, 3, 6, 7, 1, 5, 0, 0, 31, 0]),
+    (Block, [0, 0, 0, 0, 0, 0, 6, 1, 0, 0]),
+    (Homeless, [0, 0, 0, 0, 0, 0, 0, 0, 31, 0]),
 ];
 
-fn expect_keys(rt: &impl Abort, row: &Row, wanted: &[i64; 9]) {
-    for (number, wanted) in (0..9).zip(wanted.iter()) {
+fn expect_keys(rt: &impl Abort, row: &Row, wanted: &[i64; 10]) {
+    for (number, wanted) in (0..10).zip(wanted.iter()) {
         assert_eq!(rt; key_value(number, row), *wanted);
     }
 }
@@ -187,6 +187,7 @@ fn raw(alloc: Global, id: u32, fields: &[i64], values: &[Option<u32>]) -> Result
         id,
         fields: List::from_slice(alloc, fields)?,
         values: List::from_slice(alloc, values)?,
+        pinned: false,
     })
 }
 
@@ -234,7 +235,20 @@ fn the_maker_exchanges_slots(rt: HostRuntime) -> Result<(), Fail> {
 }
 
 #[test]
-fn there_are_nine_rules(rt: HostRuntime) -> Result<(), Fail> {
+fn harder_lessons_are_the_greater_ones(rt: HostRuntime) -> Result<(), Fail> {
+    let harder = harder(rt.alloc())?;
+    let pairs = harder.as_slice();
+    assert_eq!(rt; pairs.len(), 1);
+    assert!(rt; pairs[0].class == 2 && pairs[0].key == 8);
+    Ok(())
+}
+
+#[test]
+fn there_are_nine_rules_that_ask_fifteen_closures(rt: HostRuntime) -> Result<(), Fail> {
     assert_eq!(rt; defs(rt.alloc())?.len(), 9);
+    let all = numbers();
+    assert_eq!(rt; all.tests, [0, 1, 2, 3].as_slice());
+    assert_eq!(rt; all.keys, [0, 1, 2, 3, 4, 5, 6, 7, 8].as_slice());
+    assert_eq!(rt; all.weighers, [0, 1].as_slice());
     Ok(())
 }

@@ -1,3 +1,5 @@
+pub mod Classes
+pub mod Handed
 pub mod Moves
 pub mod Numbers
 pub mod Read

@@ -1,8 +1,10 @@
 -- Numbers that may not be there: how two compare, how far one is above another, and keys made of them.
-use Rattle.std.specs.Prelude.{◌&&◌, ℕ, ℤ, pos, negsuc, neg_ℤ, ◌-ℤ◌, min, not, Bool, false, int_lt, int_le, Option, Some, None}
+use Rattle.std.specs.Prelude.{◌&&◌, ℕ, ℤ, pos, negsuc, neg_ℤ, ◌-ℤ◌, min, not, Bool, false, int_lt, int_le}
+use Rattle.std.specs.Prelude.{Option, Some, None}
 use Rattle.std.specs.Option.{option_map_or}
 use Rattle.std.specs.Ordering.{int_eq}
 use Rattle.std.specs.Int.{int_min, int_max}
+use Rattle.plan_rules.specs.Limits.{key_limit}
 
 -- both numbers are there, and a test of the two holds
 abbrev pub both : (ℤ → ℤ → Bool) → Option ℤ → Option ℤ → Bool
@@ -33,9 +35,17 @@ clipped_excess cap (Some one) (Some other) = clip cap (one -ℤ other)
 clipped_excess cap (Some one) None = 0
 clipped_excess cap None other = 0
 
--- a number as a key: the nearest one from -10^9 to 10^9
+-- the greatest weight that a weigher gives
+abbrev pub weight_cap : ℕ
+weight_cap = 10000
+
+-- how far the first number is above the second, as a weight
+abbrev pub excess_weight : Option ℤ → Option ℤ → ℕ
+excess_weight one other = clipped_excess weight_cap one other
+
+-- a number as a key: the nearest one that a key may be
 abbrev pub as_key : ℤ → ℤ
-as_key number = int_max (neg_ℤ (pos 1000000000)) (int_min (pos 1000000000) number)
+as_key number = int_max (neg_ℤ (pos key_limit)) (int_min (pos key_limit) number)
 
 -- a number as a key, or 0 where it isn't there
 abbrev pub key_or_zero : Option ℤ → ℤ

@@ -1,20 +1,16 @@
-ghost use Rattle.std.specs.Prelude.{◌≡◌, [], OnOk, OnErr, option_copied};
-ghost use Rattle.domain_words.specs.Moves.{picked, held, gives, edit_of};
+ghost use Rattle.std.specs.Prelude.{◌≡◌, option_copied};
+ghost use Rattle.domain_words.specs.Moves.{fact_picked, held, gives};
 
-use plan_draws::pick;
-use plan_facts::{Memory, Plan, Raw};
-use plan_moves::{Edit, Set};
+use plan_draws::picked;
+use plan_facts::{Plan, Raw};
+use plan_moves::Set;
 
 /// The fact of a class that a word picks, of all in the order of their ids; none where there is none.
-#[tactic(auto, using(crate::proofs::Bounds::few_facts))]
-pub fn picked(plan: &Plan, class: u8, word: u32) -> Option<&Raw>
-    ensures { option_copied result ≡ picked plan.now class word }
+#[tactic(auto, using(crate::proofs::Bounds::few_in_class))]
+pub fn fact_picked(plan: &Plan, class: u8, word: u32) -> Option<&Raw>
+    ensures { option_copied result ≡ fact_picked plan.now class word }
 {
-    let facts = plan.facts(class);
-    if facts.is_empty() {
-        return None;
-    }
-    facts.get(pick(word, facts.len() as u32) as usize)
+    picked(word, plan.facts(class))
 }
 
 /// What a variable of a fact holds: the id of a value, or null.
@@ -34,20 +30,4 @@ pub fn gives(class: u8, var: u8, to: &Raw, from: &Raw) -> Set
         var,
         value: held(from, var),
     }
-}
-
-/// Fills an empty edit with these sets. At want of memory it is left empty.
-#[tactic(auto, unfolding(crate::specs::Moves::edit_of))]
-pub fn fill(edit: &mut Edit, sets: &[Set]) -> Result<(), Memory>
-    requires { edit.old ≡ [] }
-    ensures ok { OnOk result (edit.new ≡ edit_of sets.now) }
-    ensures err { OnErr result (edit.new ≡ []) }
-{
-    for set in sets {
-        if let Err(fault) = edit.put(*set) {
-            edit.clear();
-            return Err(fault);
-        }
-    }
-    Ok(())
 }

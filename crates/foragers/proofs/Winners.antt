@@ -1,31 +1,31 @@
 -- The winner, found candidate by candidate.
-use Rattle.std.proofs.Common.{◌≡◌, ◌&&◌, Bool, true, false, List, [], ◌∷◌, Option, Some, None, filter, fold, refl, if◌then◌else◌}
-use Rattle.plan_scores.specs.Order.{is_better_plan}
-use Rattle.plan_scores.specs.Best.{better_of, first_best}
+use Rattle.std.proofs.Common.{◌≡◌, ◌∙◌, ◌+◌, ◌<◌, ℕ, Bool, true, false, cond, List, [], ◌∷◌, ◌++◌, append-nil, Option, Some, filter, length, take, get_or, sym, ap}
+use Rattle.std.proofs.lemmas.List.{take_more}
+use Rattle.std.proofs.lemmas.List.Elements.{filter-append}
+use Rattle.plan_scores.specs.Best.{first_best, or_better}
+use Rattle.plan_scores.proofs.FirstBest.{first_best-push}
 use Rattle.foragers.specs.declared.Seen.{Seen}
-use Rattle.foragers.specs.Forage.{is_accepted, with_candidate}
+use Rattle.foragers.specs.Forage.{is_accepted, score_of}
 
--- the winner of some more candidates, after a winner so far
-abbrev pub winner_from : Option Seen → List Seen → Option Seen
-winner_from winner [] = winner
-winner_from winner (entry ∷ rest) = winner_from (with_candidate winner entry) rest
+-- the winner of some candidates
+abbrev pub winner_among : List Seen → Option Seen
+winner_among entries = first_best score_of (filter is_accepted entries)
 
-from_some : (winner : Seen) (entries : List Seen) → winner_from (Some winner) entries ≡ Some (fold (better_of (λ entry. entry.score)) winner (filter is_accepted entries))
-from_some winner [] = refl
-from_some winner (entry ∷ rest) =
-    elim entry.accepted as (λ a. winner_from (if a && is_better_plan entry.score winner.score then Some entry else Some winner) rest ≡ Some (fold (better_of (λ entry. entry.score)) winner (if a then entry ∷ filter is_accepted rest else filter is_accepted rest))) [
-      | true ↦ elim (is_better_plan entry.score winner.score) as (λ b. winner_from (if b then Some entry else Some winner) rest ≡ Some (fold (better_of (λ entry. entry.score)) (if b then entry else winner) (filter is_accepted rest))) [
-        | true ↦ from_some entry rest
-        | false ↦ from_some winner rest
-      ]
-      | false ↦ from_some winner rest
+-- and of one more
+winner_among-push : (entries : List Seen) (entry : Seen) → winner_among (entries ++ entry ∷ []) ≡ cond entry.accepted (Some (or_better score_of (winner_among entries) entry)) (winner_among entries)
+winner_among-push entries entry =
+    ap (first_best score_of) (filter-append is_accepted entries (entry ∷ []))
+    ∙ elim entry.accepted as (λ (a : Bool). first_best score_of (filter is_accepted entries ++ cond a (entry ∷ []) []) ≡ cond a (Some (or_better score_of (winner_among entries) entry)) (winner_among entries)) [
+      | true ↦ first_best-push score_of (filter is_accepted entries) entry
+      | false ↦ ap (first_best score_of) (append-nil (filter is_accepted entries))
     ]
 
--- it is the first best of those that are accepted
-pub winner_from-is : (entries : List Seen) → winner_from None entries ≡ first_best (λ entry. entry.score) (filter is_accepted entries)
-winner_from-is [] = refl
-winner_from-is (entry ∷ rest) =
-    elim entry.accepted as (λ a. winner_from (if a then Some entry else None) rest ≡ first_best (λ entry. entry.score) (if a then entry ∷ filter is_accepted rest else filter is_accepted rest)) [
-      | true ↦ from_some entry rest
-      | false ↦ winner_from-is rest
-    ]
+-- the winner of the candidates up to the next one
+pub winner_among-next : (judged : List Seen) (seen : ℕ) (d : Seen) (before after : Option Seen) → seen < length judged → before ≡ winner_among (take seen judged)
+    → after ≡ cond (get_or judged seen d).accepted (Some (or_better score_of before (get_or judged seen d))) before → after ≡ winner_among (take (seen + 1) judged)
+winner_among-next judged seen d before after within was is =
+    let entry = get_or judged seen d in
+    is
+    ∙ ap (λ (w : Option Seen). cond entry.accepted (Some (or_better score_of w entry)) w) was
+    ∙ sym (winner_among-push (take seen judged) entry)
+    ∙ sym (ap winner_among (take_more judged seen d within))

@@ -1,5 +1,5 @@
 -- What a step sees of its judged candidates, and which of them wins.
-use Rattle.std.specs.Prelude.{ℕ, Bool, true, false, ◌&&◌, ◌||◌, if◌then◌else◌, List, [], ◌∷◌, ◌++◌, nat_le, count_by, filter, Option, Some, None}
+use Rattle.std.specs.Prelude.{ℕ, Bool, true, false, ◌&&◌, ◌||◌, if◌then◌else◌, List, [], ◌∷◌, ◌++◌, nat_le, count_by, filter, Option, option_map}
 use Rattle.plan_scores.specs.declared.plan_score.PlanScore.{PlanScore}
 use Rattle.plan_scores.specs.Order.{is_better_plan}
 use Rattle.plan_scores.specs.Best.{first_best}
@@ -14,8 +14,18 @@ pub record Limits : Type 0 where
   pub best : PlanScore
   pub last : PlanScore
 
+-- the limits of these numbers
+abbrev pub limits_of : ℕ → Early → PlanScore → PlanScore → Limits
+limits_of accepted early best last = record { accepted = accepted; early = early; best = best; last = last }
+
 abbrev pub is_accepted : Seen → Bool
 is_accepted entry = entry.accepted
+
+abbrev pub score_of : Seen → PlanScore
+score_of entry = entry.score
+
+abbrev pub number_of : Seen → ℕ
+number_of entry = entry.number
 
 -- an accepted candidate that ends the step at once
 abbrev pub is_picked_early : Limits → Seen → Bool
@@ -29,7 +39,8 @@ is_picked_early limits entry =
 -- a candidate ends the step: it is the last that the limit of accepted ones lets in, or it is picked early
 abbrev pub ends_step : Limits → List Seen → Seen → Bool
 ends_step limits before entry =
-    (entry.accepted && nat_le limits.accepted (count_by is_accepted (before ++ entry ∷ []))) || is_picked_early limits entry
+    (entry.accepted && nat_le limits.accepted (count_by is_accepted (before ++ entry ∷ []))) ||
+    is_picked_early limits entry
 
 -- the candidates after some others up to the first that ends the step; where none does, all of them
 abbrev pub seen_after : Limits → List Seen → List Seen → List Seen
@@ -51,11 +62,10 @@ seen_of limits judged = seen_after limits [] judged
 abbrev pub is_ended : Limits → List Seen → Bool
 is_ended limits judged = is_ended_after limits [] judged
 
--- the winner so far, or the next candidate where that is accepted and better
-abbrev pub with_candidate : Option Seen → Seen → Option Seen
-with_candidate None next = if next.accepted then Some next else None
-with_candidate (Some winner) next = if next.accepted && is_better_plan next.score winner.score then Some next else Some winner
-
 -- the accepted candidate with the greatest score among those seen, the first of equals
 abbrev pub winner_of : Limits → List Seen → Option Seen
-winner_of limits judged = first_best (λ entry. entry.score) (filter is_accepted (seen_of limits judged))
+winner_of limits judged = first_best score_of (filter is_accepted (seen_of limits judged))
+
+-- its number
+abbrev pub winning_number : Limits → List Seen → Option ℕ
+winning_number limits judged = option_map number_of (winner_of limits judged)

@@ -1,8 +1,9 @@
 //! Foraging: how many of a step's judged candidates are looked at, and which of them wins.
 #![tactic(auto)]
 
-ghost use Rattle.std.specs.Prelude.{◌≡◌, ◌≤◌, length, option_map};
-ghost use Rattle.foragers.specs.Forage.{Limits, seen_of, is_ended, winner_of, is_picked_early, with_candidate};
+ghost use Rattle.std.specs.Prelude.{◌≡◌, ◌≤◌, Some, length, option_map, if◌then◌else◌};
+ghost use Rattle.plan_scores.specs.Best.{or_better};
+ghost use Rattle.foragers.specs.Forage.{limits_of, seen_of, is_ended, winning_number, number_of, score_of, is_picked_early};
 
 use plan_scores::PlanScore;
 use plan_settings::Early;
@@ -31,7 +32,7 @@ pub struct Pick {
 
 /// Whether an accepted candidate ends the step at once.
 fn is_picked_early(early: Early, best: &PlanScore, last: &PlanScore, entry: &Seen) -> bool
-    ensures { let limits : Limits = record { accepted = 0; early = early; best = best.now; last = last.now } in result ≡ is_picked_early limits entry.now }
+    ensures { result ≡ is_picked_early (limits_of 0 early best.now last.now) entry.now }
 {
     match early {
         Early::Never => false,
@@ -42,7 +43,7 @@ fn is_picked_early(early: Early, best: &PlanScore, last: &PlanScore, entry: &See
 
 /// The winner so far, or the next candidate where that is accepted and better.
 fn better(best: Option<Seen>, next: Seen) -> Option<Seen>
-    ensures { result ≡ with_candidate best next }
+    ensures { result ≡ (if next.accepted then Some (or_better score_of best next) else best) }
 {
     match best {
         None => if next.accepted { Some(next) } else { None },
@@ -60,9 +61,9 @@ fn better(best: Option<Seen>, next: Seen) -> Option<Seen>
 /// picks the accepted one with the greatest score, the first of equals. There are at most 10,000 candidates.
 pub fn forage(judged: &[Seen], limit: u32, early: Early, best: &PlanScore, last: &PlanScore) -> Pick
     requires { length judged.now ≤ 10000 }
-    ensures seen { let limits : Limits = record { accepted = limit; early = early; best = best.now; last = last.now } in result.seen ≡ length (seen_of limits judged.now) }
-    ensures done { let limits : Limits = record { accepted = limit; early = early; best = best.now; last = last.now } in result.done ≡ is_ended limits judged.now }
-    ensures winner { let limits : Limits = record { accepted = limit; early = early; best = best.now; last = last.now } in result.winner ≡ option_map (λ entry. entry.number) (winner_of limits judged.now) }
+    ensures seen { result.seen ≡ length (seen_of (limits_of limit early best.now last.now) judged.now) }
+    ensures done { result.done ≡ is_ended (limits_of limit early best.now last.now) judged.now }
+    ensures winner { result.winner ≡ winning_number (limits_of limit early best.now last.now) judged.now }
 {
     let mut accepted = 0;
     let mut winner: Option<Seen> = None;
@@ -86,7 +87,7 @@ pub fn forage(judged: &[Seen], limit: u32, early: Early, best: &PlanScore, last:
 
 fn picked(seen: usize, done: bool, winner: Option<Seen>) -> Pick
     requires { seen ≤ 10000 }
-    ensures { result ≡ record { seen = seen; done = done; winner = option_map (λ entry. entry.number) winner } }
+    ensures { result ≡ record { seen = seen; done = done; winner = option_map number_of winner } }
 {
     Pick {
         seen: seen as u32,

@@ -1,8 +1,8 @@
 -- A value beside what the program holds of it.
-use Rattle.std.proofs.Common.{◌≡◌, ◌∙◌, ℕ, List, [], ◌∷◌, Bool, true, false, cond, not, map, Some, None, option_and_then, String, Global, string_bytes, Bor, refl, sym, ap, subst}
+use Rattle.std.proofs.Common.{◌≡◌, ◌∙◌, ℕ, List, [], ◌∷◌, Bool, true, false, ◌||◌, cond, map, Some, None, option_and_then, String, Global, string_bytes, refl, sym, ap, subst}
 use Rattle.std.specs.List.{list_any}
 use Rattle.std.specs.Map.{keys_of as map_keys}
-use Rattle.std.specs.Str.{IsUtf8, is_utf8, bytes_eq}
+use Rattle.std.specs.Str.{IsUtf8, is_utf8}
 use Rattle.std.proofs.lemmas.Str.{IsUtf8-from_is_utf8, is_utf8-from_IsUtf8, IsUtf8-string_bytes}
 use Rattle.serde_json.specs.Data.{Data, null, boolean, number, string, array, object}
 use Rattle.serde_json.specs.Read.{read}
@@ -10,7 +10,7 @@ use Rattle.serde_json.specs.Find.{get, get_member, as_object}
 use Rattle.serde_json.specs.View.{view, items_view, members_view}
 use Rattle.serde_json.specs.declared.value.Value.{Value}
 use Rattle.serde_json.proofs.Views.{member_later}
-use Rattle.json_values.specs.Values.{value_of, listed, keys_of, has_other}
+use Rattle.json_values.specs.Values.{value_of, listed, keys_of, is_other, has_other}
 
 -- bytes that are UTF-8 are the value that is read
 pub value_of-read : (bytes : List ℕ) (d : Data) → IsUtf8 bytes → read bytes ≡ Some d → value_of bytes ≡ Some d
@@ -43,25 +43,27 @@ no_member name [] bad = refl
 no_member name (e ∷ es) bad =
     member_later name e es (λ same. bad (subst IsUtf8 (sym same) (IsUtf8-string_bytes e.0))) ∙ no_member name es bad
 
+-- a test of some member holds where it holds of the first one
+pub any_here : {A : Type 0} (p : A → Bool) (xs : List A) (x : A) (rest : List A) → xs ≡ x ∷ rest → p x ≡ true → list_any p xs ≡ true
+any_here p xs x rest is here = ap (list_any p) is ∙ ap (λ b. b || list_any p rest) here
+
+-- where it doesn't hold of the first one it is a test of the others
+pub any_later : {A : Type 0} (p : A → Bool) (xs : List A) (x : A) (rest : List A) → xs ≡ x ∷ rest → p x ≡ false → list_any p xs ≡ list_any p rest
+any_later p xs x rest is later = ap (list_any p) is ∙ ap (λ b. b || list_any p rest) later
+
 -- a test of some member of a list that was made member by member
 pub list_any-map : {A B : Type 0} (f : A → B) (p : B → Bool) (xs : List A) → list_any p (map f xs) ≡ list_any (λ x. p (f x)) xs
 list_any-map f p [] = refl
 list_any-map f p (x ∷ xs) = rw (list_any-map f p xs) refl
 
-other_names : (p : List ℕ → Bool) (es : List (String Global × Value)) → list_any p (keys_of (members_view es)) ≡ list_any (λ key. p (string_bytes key)) (map_keys es)
-other_names p [] = refl
-other_names p (e ∷ es) = rw (other_names p es) refl
+any_key : (p : List ℕ → Bool) (es : List (String Global × Value)) → list_any p (keys_of (members_view es)) ≡ list_any (λ key. p (string_bytes key)) (map_keys es)
+any_key p [] = refl
+any_key p (e ∷ es) = rw (any_key p es) refl
 
-same_tests : (names : List (Bor (List ℕ))) (keys : List (String Global))
-    → list_any (λ key. not (list_any (bytes_eq (string_bytes key)) (map (λ name. name.now) names))) keys ≡ list_any (λ key. not (list_any (λ name. bytes_eq (string_bytes key) name.now) names)) keys
-same_tests names [] = refl
-same_tests names (key ∷ keys) = rw (list_any-map (λ (name : Bor (List ℕ)). name.now) (bytes_eq (string_bytes key)) names, same_tests names keys) refl
-
--- a key is none of the names, as the program asks it
-pub has_other-keys : (names : List (Bor (List ℕ))) (d : Data) (es : List (String Global × Value)) → Some (members_view es) ≡ as_object d
-    → has_other (map (λ name. name.now) names) d ≡ list_any (λ key. not (list_any (λ name. bytes_eq (string_bytes key) name.now) names)) (map_keys es)
-has_other-keys names d es is =
-    rw (sym is) (other_names (λ key. not (list_any (bytes_eq key) (map (λ name. name.now) names))) es ∙ same_tests names (map_keys es))
+-- an object has another member where one of its keys is another
+pub has_other-keys : (names : List (List ℕ)) (d : Data) (es : List (String Global × Value)) → Some (members_view es) ≡ as_object d
+    → has_other names d ≡ list_any (λ key. is_other names (string_bytes key)) (map_keys es)
+has_other-keys names d es is = rw (sym is) (any_key (is_other names) es)
 
 -- what is no object has no other member
 pub has_other-none : (names : List (List ℕ)) (d : Data) → None ≡ as_object d → has_other names d ≡ false

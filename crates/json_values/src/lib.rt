@@ -1,13 +1,13 @@
 //! JSON values read by name, by kind and within a range.
 #![tactic(auto)]
 
-ghost use Rattle.std.specs.Prelude.{◌≡◌, Some, None, List, ℕ, IfOk, map, not, option_map, option_and_then, string_bytes};
+ghost use Rattle.std.specs.Prelude.{◌≡◌, Some, None, IfOk, map, option_map, string_bytes};
 ghost use Rattle.std.specs.List.{list_any};
-ghost use Rattle.std.specs.Str.{bytes_eq};
 ghost use Rattle.std.specs.BTreeMap.{keys};
 ghost use Rattle.serde_json.specs.View.{view, members_view};
 ghost use Rattle.serde_json.specs.Find.{get, get_member};
-ghost use Rattle.json_values.specs.Values.{value_of, items_of, number_within, has_other};
+ghost use Rattle.json_values.specs.Values.{value_of, items_of, number_within, is_other, has_other};
+ghost use Rattle.json_values.specs.Views.{view_at, Knows};
 
 use serde_json::{Map, Value};
 use std::alloc::Global;
@@ -41,7 +41,7 @@ pub fn read_value(alloc: Global, bytes: &[u8]) -> Result<Value, ReadFault>
 
 /// The member with this name; none where there is none, or the value is no object.
 pub fn member<'a>(object: &'a Value, name: &[u8]) -> Option<&'a Value>
-    ensures { option_map (λ value. view value.now) result ≡ get name.now (view object.now) }
+    ensures { view_at result ≡ get name.now (view object.now) }
 {
     match object.as_object() {
         Some(members) => member_of(members, name),
@@ -51,7 +51,7 @@ pub fn member<'a>(object: &'a Value, name: &[u8]) -> Option<&'a Value>
 
 /// The member with this name.
 fn member_of<'a>(members: &'a Map<String, Value>, name: &[u8]) -> Option<&'a Value>
-    ensures { option_map (λ value. view value.now) result ≡ get_member name.now (members_view members.now.entries) }
+    ensures { view_at result ≡ get_member name.now (members_view members.now.entries) }
 {
     match str::from_utf8(name) {
         Ok(text) => members.get(text),
@@ -85,71 +85,30 @@ pub fn number_within(value: &Value, low: u32, high: u32) -> Option<u32>
     }
 }
 
-/// Whether one of the names is this one.
-fn stands_in(names: &[&[u8]], name: &[u8]) -> bool
-    ensures { result ≡ list_any (λ other. bytes_eq name.now other.now) names.now }
+/// Whether the value is an object with a member that isn't among the names for which `is_known` answers yes.
+pub fn has_other<F: Fn(&[u8]) -> bool>(value: &Value, is_known: F) -> bool
+    requires { F.IsAlwaysCallable is_known }
+    ensures { (names : _) → Knows F.Fn is_known names → result ≡ has_other names (view value.now) }
 {
-    names.iter().any(|other| name == *other)
-}
-
-/// Whether the object has a member that isn't among these names.
-pub fn has_other(object: &Value, names: &[&[u8]]) -> bool
-    ensures { result ≡ has_other (map (λ name. name.now) names.now) (view object.now) }
-{
-    match object.as_object() {
-        Some(members) => has_other_key(members, names),
+    match value.as_object() {
+        Some(members) => has_other_key(members, is_known),
         None => false,
     }
 }
 
-/// Whether a key isn't among these names.
-fn has_other_key(members: &Map<String, Value>, names: &[&[u8]]) -> bool
-    ensures { result ≡ list_any (λ key. not (list_any (λ name. bytes_eq (string_bytes key) name.now) names.now)) (keys members.now) }
+/// Whether a key isn't known.
+fn has_other_key<F: Fn(&[u8]) -> bool>(members: &Map<String, Value>, is_known: F) -> bool
+    requires { F.IsAlwaysCallable is_known }
+    ensures { (names : _) → Knows F.Fn is_known names →
+        result ≡ list_any (λ key. is_other names (string_bytes key)) (keys members.now) }
 {
-    members.keys().any(|key| !stands_in(names, key.as_bytes()))
+    for key in members.keys() {
+        if !is_known(key.as_bytes()) {
+            return true;
+        }
+    }
+    false
 }
 
 #[cfg(test)]
-mod tests {
-    use super::*;
-    use std::test::Fail;
-
-    #[test]
-    fn reads_members_by_kind_and_range(rt: HostRuntime) -> Result<(), Fail> {
-        let text =
-            b"{\"n\":7,\"n\":8,\"f\":1.0,\"e\":1e3,\"z\":-0,\"m\":-1,\"l\":[1,null],\"t\":\"x\"}";
-        let root = read_value(rt.alloc(), text)?;
-        let cases: [(&[u8], u32, u32, Option<u32>); 8] = [
-            (b"n", 8, 8, Some(8)),
-            (b"n", 0, 7, None),
-            (b"n", 9, 10, None),
-            (b"f", 0, 9, None),
-            (b"e", 0, 9999, None),
-            (b"z", 0, 9, None),
-            (b"m", 0, 9, None),
-            (b"t", 0, 9, None),
-        ];
-        for (name, low, high, want) in cases {
-            let value = member(&root, name).ok_or("missing")?;
-            assert_eq!(rt; number_within(value, low, high), want);
-        }
-        assert!(rt; member(&root, b"N").is_none());
-        assert!(rt; member(&root, b"\xff").is_none());
-        let list = member(&root, b"l").and_then(items).ok_or("no list")?;
-        assert_eq!(rt; list.len(), 2);
-        assert!(rt; items(&root).is_none());
-        let names: [&[u8]; 7] = [b"n", b"f", b"e", b"z", b"m", b"l", b"t"];
-        assert!(rt; !has_other(&root, &names));
-        assert!(rt; has_other(&root, &names[1..]));
-        assert!(rt; !has_other(&Value::Null, &[]));
-        Ok(())
-    }
-
-    #[test]
-    fn refuses_what_is_no_json(rt: HostRuntime) {
-        let cases: [&[u8]; 5] = [b"", b"{", b"\xff", b"1 2", b"{\"a\":1,}"];
-        for bytes in cases {
-            assert_eq!(rt; read_value(rt.alloc(), bytes).err(), Some(ReadFault::Json));
-        }
-    }
-}
+mod tests;

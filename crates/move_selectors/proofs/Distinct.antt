@@ -1,15 +1,14 @@
--- The different members of a list, as the list grows.
-use Rattle.std.proofs.Common.{◌≡◌, ◌∙◌, ◌<◌, ◌+◌, ℕ, Bool, true, false, cond, not, ◌||◌, Option, List, [], ◌∷◌, ◌++◌, append-nil, length, map, filter, take, get_or, refl, ap, sym}
+-- The pillars of a list of entities as it grows.
+use Rattle.std.proofs.Common.{◌≡◌, ◌∙◌, ◌<◌, ◌≤◌, ◌+◌, ℕ, Bool, true, false, cond, not, ◌||◌, Option, List, [], ◌∷◌, ◌++◌, append-nil, length, map, filter, take, get_or, refl, ap, arith}
 use Rattle.std.specs.List.{list_any}
-use Rattle.std.proofs.lemmas.List.{map_more}
+use Rattle.std.proofs.lemmas.List.{map_more, length-map, length-take-le, get_or-map, get_or-take}
 use Rattle.std.proofs.lemmas.List.Elements.{filter-append}
-use Rattle.std.proofs.lemmas.List.Folds.{list_any-append}
+use Rattle.std.proofs.lemmas.List.Folds.{list_any_none, list_any_at}
+use Rattle.std.proofs.lemmas.Map.Views.{any-filter_same}
 use Rattle.plan_facts.specs.declared.record.Raw.{Raw}
-use Rattle.move_selectors.specs.Pillars.{same_values, has_no_null, distinct, pillars}
-
--- what some entities hold, where none of it is null
-abbrev pub held_by : List Raw → List (List (Option ℕ))
-held_by entities = filter has_no_null (map (λ raw. raw.values) entities)
+use Rattle.move_selectors.specs.Pillars.{same_values, is_settled, distinct, pillars_of}
+use Rattle.move_selectors.specs.Links.{no_record, values_at, is_settled_at}
+use Rattle.move_selectors.proofs.SameValues.{same_is}
 
 module _ {A : Type 0} (same : A → A → Bool) where
   -- one more member, where it is new
@@ -27,50 +26,58 @@ module _ {A : Type 0} (same : A → A → Bool) where
             ]
       ]
 
--- one more entity, with or without a null value
-pub held_by-more : (entities : List Raw) (place : ℕ) (d : Raw) → place < length entities → held_by (take (place + 1) entities) ≡ held_by (take place entities) ++ cond (has_no_null (get_or entities place d).values) ((get_or entities place d).values ∷ []) []
-held_by-more entities place d within =
-    ap (filter has_no_null) (map_more (λ (raw : Raw). raw.values) entities place d within) ∙ filter-append has_no_null (map (λ raw. raw.values) (take place entities)) ((get_or entities place d).values ∷ [])
+-- what the entities up to one hold
+abbrev pub values_upto : List Raw → ℕ → List (List (Option ℕ))
+values_upto entities upto = map (λ raw. raw.values) (take upto entities)
 
--- the pillars of some entities are the different lists of values that they hold
-pub pillars_are : (entities : List Raw) → pillars entities ≡ distinct same_values (held_by entities)
-unfolding pillars
-pillars_are entities = refl
+values-more : (entities : List Raw) (at : ℕ) → at < length entities → values_upto entities (at + 1) ≡ values_upto entities at ++ values_at entities at ∷ []
+values-more entities at within = map_more (λ (raw : Raw). raw.values) entities at no_record within
 
-or_flipped : (there is : Bool) → there || (is || false) ≡ cond is true there
-or_flipped true true = refl
-or_flipped true false = refl
-or_flipped false true = refl
-or_flipped false false = refl
+settled-more : (nullables : List Bool) (entities : List Raw) (at : ℕ) → at < length entities → filter (is_settled nullables) (values_upto entities (at + 1)) ≡ filter (is_settled nullables) (values_upto entities at) ++ cond (is_settled_at nullables entities at) (values_at entities at ∷ []) []
+settled-more nullables entities at within =
+    ap (filter (is_settled nullables)) (values-more entities at within) ∙ filter-append (is_settled nullables) (values_upto entities at) (values_at entities at ∷ [])
 
--- one more entity that has a null value holds nothing that counts
-pub held_by-null : (entities : List Raw) (place : ℕ) (raw : Raw) (values : List (Option ℕ)) → place < length entities → raw ≡ get_or entities place raw → values ≡ raw.values → has_no_null values ≡ false → held_by (take (place + 1) entities) ≡ held_by (take place entities)
-held_by-null entities place raw values within here is null =
-    held_by-more entities place raw within
-    ∙ ap (λ (r : Raw). held_by (take place entities) ++ cond (has_no_null r.values) (r.values ∷ []) []) (sym here)
-    ∙ ap (λ (v : List (Option ℕ)). held_by (take place entities) ++ cond (has_no_null v) (v ∷ []) []) (sym is)
-    ∙ ap (λ (b : Bool). held_by (take place entities) ++ cond b (values ∷ []) []) null
-    ∙ append-nil (held_by (take place entities))
+-- an entity that isn't settled makes no pillar
+pub pillars-open : (nullables : List Bool) (entities : List Raw) (at : ℕ) → at < length entities → is_settled_at nullables entities at ≡ false → pillars_of nullables (take (at + 1) entities) ≡ pillars_of nullables (take at entities)
+unfolding pillars_of
+pillars-open nullables entities at within unsettled =
+    ap (distinct same_values) (settled-more nullables entities at within
+    ∙ ap (λ (b : Bool). filter (is_settled nullables) (values_upto entities at) ++ cond b (values_at entities at ∷ []) []) unsettled
+    ∙ append-nil (filter (is_settled nullables) (values_upto entities at)))
 
--- one more entity without a null value adds what it holds
-pub held_by-placed : (entities : List Raw) (place : ℕ) (raw : Raw) (values : List (Option ℕ)) → place < length entities → raw ≡ get_or entities place raw → values ≡ raw.values → has_no_null values ≡ true → held_by (take (place + 1) entities) ≡ held_by (take place entities) ++ values ∷ []
-held_by-placed entities place raw values within here is placed =
-    held_by-more entities place raw within
-    ∙ ap (λ (r : Raw). held_by (take place entities) ++ cond (has_no_null r.values) (r.values ∷ []) []) (sym here)
-    ∙ ap (λ (v : List (Option ℕ)). held_by (take place entities) ++ cond (has_no_null v) (v ∷ []) []) (sym is)
-    ∙ ap (λ (b : Bool). held_by (take place entities) ++ cond b (values ∷ []) []) placed
+-- a settled one makes a new pillar, or belongs to one that is there
+pub pillars-settled : (nullables : List Bool) (entities : List Raw) (at : ℕ) (there : Bool) → at < length entities → is_settled_at nullables entities at ≡ true
+    → list_any (λ other. same_values other (values_at entities at)) (values_upto entities at) ≡ there
+    → pillars_of nullables (take (at + 1) entities) ≡ cond there (pillars_of nullables (take at entities)) (pillars_of nullables (take at entities) ++ values_at entities at ∷ [])
+unfolding pillars_of
+pillars-settled nullables entities at there within settled is =
+    let values = values_at entities at in
+    let held = filter (is_settled nullables) (values_upto entities at) in
+    let any : list_any (λ other. same_values other values) held ≡ there =
+    any-filter_same (λ other. same_values other values) (is_settled nullables) true (λ other same. ap (is_settled nullables) (same_is other values same) ∙ settled) (values_upto entities at) ∙ is in
+    ap (distinct same_values) (settled-more nullables entities at within ∙ ap (λ (b : Bool). held ++ cond b (values ∷ []) []) settled)
+    ∙ distinct-push same_values held values
+    ∙ ap (λ (b : Bool). cond b (distinct same_values held) (distinct same_values held ++ values ∷ [])) any
 
--- whether some values are held once there is one more
-pub held-push : (held : List (List (Option ℕ))) (values q : List (Option ℕ)) → list_any (λ y. same_values y q) (held ++ values ∷ []) ≡ cond (same_values values q) true (list_any (λ y. same_values y q) held)
-held-push held values q = list_any-append (λ y. same_values y q) held (values ∷ []) ∙ or_flipped (list_any (λ y. same_values y q) held) (same_values values q)
+-- what stands at a place of what the entities up to one hold
+values_upto-at : (entities : List Raw) (upto k : ℕ) (d : List (Option ℕ)) → k < upto → upto ≤ length entities → get_or (values_upto entities upto) k d ≡ values_at entities k
+values_upto-at entities upto k d before within =
+    let long = length-take-le upto entities within in
+    get_or-map (λ (raw : Raw). raw.values) (take upto entities) k no_record d (omega arith) ∙ ap (λ (raw : Raw). raw.values) (get_or-take upto entities k no_record before)
 
--- the pillars of what is held, whether one more is new or not
-pub pillars-push : (entities more : List Raw) (values : List (Option ℕ)) (there : Bool) → held_by more ≡ held_by entities ++ values ∷ [] → list_any (λ y. same_values y values) (held_by entities) ≡ there → pillars more ≡ cond there (pillars entities) (pillars entities ++ values ∷ [])
-unfolding pillars
-pillars-push entities more values there is e =
-    ap (distinct same_values) is ∙ distinct-push same_values (held_by entities) values ∙ ap (λ (b : Bool). cond b (distinct same_values (held_by entities)) (distinct same_values (held_by entities) ++ values ∷ [])) e
+length-upto : (entities : List Raw) (upto : ℕ) → upto ≤ length entities → length (values_upto entities upto) ≡ upto
+length-upto entities upto within = length-map (take upto entities) (λ (raw : Raw). raw.values) ∙ length-take-le upto entities within
 
--- the same values held give the same pillars
-pub pillars-same : (entities more : List Raw) → held_by more ≡ held_by entities → pillars more ≡ pillars entities
-unfolding pillars
-pillars-same entities more is = ap (distinct same_values) is
+-- none of the entities up to one holds some values
+pub none_upto : (entities : List Raw) (upto : ℕ) (values : List (Option ℕ)) → upto ≤ length entities → ((at : ℕ) → at < upto → same_values (values_at entities at) values ≡ false) → list_any (λ other. same_values other values) (values_upto entities upto) ≡ false
+none_upto entities upto values within none =
+    list_any_none (λ other. same_values other values) (values_upto entities upto)
+    (λ k d before.
+    let less : k < upto = (let long = length-upto entities upto within in omega arith) in
+    ap (λ (v : List (Option ℕ)). same_values v values) (values_upto-at entities upto k d less within) ∙ none k less)
+
+-- one of them does
+pub some_upto : (entities : List Raw) (upto at : ℕ) (values : List (Option ℕ)) → upto ≤ length entities → at < upto → same_values (values_at entities at) values ≡ true → list_any (λ other. same_values other values) (values_upto entities upto) ≡ true
+some_upto entities upto at values within before same =
+    list_any_at (λ other. same_values other values) (values_upto entities upto) at [] (let long = length-upto entities upto within in omega arith)
+    (ap (λ (v : List (Option ℕ)). same_values v values) (values_upto-at entities upto at [] before within) ∙ same)

@@ -1,7 +1,12 @@
-pub mod ListReads
-pub mod Walks
-pub mod Bounds
+pub mod SameValues
 pub mod Distinct
+pub mod LinkLaws
+pub mod Bounds
+pub mod Placed
+pub mod Parts
+pub mod PoolLaws
+pub mod Pillared
+pub mod Walked
 pub mod SetLists
-pub mod Members
+pub mod Exchanging
 pub mod Makers

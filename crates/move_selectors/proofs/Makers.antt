@@ -1,17 +1,20 @@
 -- What the maker that a word picks makes.
-use Rattle.std.proofs.Common.{◌≡◌, ◌∙◌, ◌<◌, ℕ, Option, Some, None, Result, Ok, Err, IfOk, List, length, map, get_or, slice_get, slice_index, option_map, ap, sym}
+use Rattle.std.proofs.Common.{◌≡◌, ◌∙◌, ◌<◌, ℕ, Bool, true, false, Option, Some, None, Result, Ok, Err, List, length, map, get_or, slice_get, slice_index, option_map, ap, sym}
 use Rattle.std.specs.Option.{option_and_then}
 use Rattle.std.proofs.lemmas.List.{length-map}
 use Rattle.std.proofs.lemmas.Option.{slice_get-map, slice_get-get_or}
 use Rattle.plan_facts.specs.Plan.{PlanView}
 use Rattle.plan_moves.specs.declared.edit.Set.{Set}
-use Rattle.move_selectors.specs.Picks.{picked, picked_place}
+use Rattle.plan_draws.specs.Picks.{picked, picked_place}
+use Rattle.plan_moves.specs.Made.{Fills}
+use Rattle.move_selectors.specs.Puts.{Puts}
 use Rattle.move_selectors.specs.Candidates.{own_of}
 
--- what holds of a value holds of it where one fact follows from another
-pub IfOk-weaker : {T E : Type 0} (r : Result T E) (P Q : T → Type 0) → ((x : T) → P x → Q x) → IfOk r P → IfOk r Q
-IfOk-weaker (Ok x) P Q step holds = step x holds
-IfOk-weaker (Err e) P Q step holds = tt
+-- an edit that is filled is put
+pub fills-puts : {E : Type 0} (result : Result Bool E) (due : Option (List Set)) (edit : List Set) → Fills result due edit → Puts result due edit
+fills-puts (Ok true) due edit fills = fills
+fills-puts (Ok false) due edit fills = fills.0
+fills-puts (Err fault) due edit fills = tt
 
 module _ {M : Type 0} (made : M → PlanView → List ℕ → Option (List Set)) (makers : List M) (plan : PlanView) (words : List ℕ) where
   -- where there is no maker, nothing is made

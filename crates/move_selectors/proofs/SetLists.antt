@@ -5,7 +5,7 @@ use Rattle.std.proofs.lemmas.List.{length-map, take_more, get_or-map}
 use Rattle.std.proofs.lemmas.List.FromFn.{length-enumerate_from, get_or-enumerate_from}
 use Rattle.std.proofs.lemmas.List.Sums.{fold-append}
 use Rattle.plan_moves.specs.declared.edit.Set.{Set}
-use Rattle.move_selectors.specs.Sets.{with_new, edit_of, sets_of}
+use Rattle.plan_moves.specs.Edits.{with_new, edit_of, sets_of}
 
 -- the set that gives a variable of an entity a value
 abbrev set_at : ℕ → ℕ → ℕ → Option ℕ → Set
@@ -31,14 +31,9 @@ sets_more base class id var values value within is =
     ∙ ap (with_new (fold with_new base (take var (sets_of class id values)))) here
 
 -- the first set of an edit
-pub with_new_first : (set : Set) → with_new [] set ≡ set ∷ []
+pub with_new-first : (set : Set) → with_new [] set ≡ set ∷ []
 unfolding with_new
-with_new_first set = λ i. set ∷ []
-
--- the edit of two lists of sets, one after the other
-pub edit_of-append : (first more : List Set) → edit_of (first ++ more) ≡ fold with_new (edit_of first) more
-unfolding edit_of
-edit_of-append first more = fold-append with_new [] first more
+with_new-first set = λ i. set ∷ []
 
 -- an edit that got one list of sets and then another
 pub edit_of_two : (first more edit both : List Set) → edit ≡ fold with_new [] first → both ≡ fold with_new edit more → both ≡ edit_of (first ++ more)

@@ -1,6 +1,9 @@
-pub mod Picks
-pub mod Entities
 pub mod Pillars
-pub mod Sets
 pub mod Choices
 pub mod Candidates
+pub mod Links
+pub mod Linked
+pub mod Pool
+pub mod Movables
+pub mod Exchanged
+pub mod Puts

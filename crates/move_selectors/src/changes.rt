@@ -1,95 +1,81 @@
-ghost use Rattle.std.specs.Prelude.{◌≡◌, [], ◌∷◌, IfOk, option_map};
-ghost use Rattle.move_selectors.specs.Candidates.{chosen_set, change_of, pillar_edit_of, pillar_change_in, in_picked_class};
+ghost use Rattle.std.specs.Prelude.{◌≡◌, [], ◌∷◌, length, option_map};
+ghost use Rattle.std.specs.Option.{option_and_then};
+ghost use Rattle.plan_draws.specs.Picks.{picked};
+ghost use Rattle.plan_moves.specs.Entities.{entity_classes};
+ghost use Rattle.move_selectors.specs.Candidates.{change_of, pillar_change_in, in_picked_class};
+ghost use Rattle.move_selectors.specs.Movables.{AreOf, HaveLinks};
+ghost use Rattle.move_selectors.specs.Pool.{IsPoolOf};
+ghost use Rattle.move_selectors.specs.Puts.{Puts};
 
-use crate::entities::{picked_class, picked_entity};
-use crate::pillars::{find_pillars, picked_pillar, same_values};
-use crate::sets::put;
-use crate::values::{Choice, picked_choice};
-use plan_facts::{Memory, Plan, Raw};
+use crate::movables::Movables;
+use crate::pillars::{change_members, chosen_set, picked_pillar};
+use crate::pool::Pool;
+use crate::values::picked_choice;
+use plan_draws::picked;
+use plan_facts::{Memory, Plan};
 use plan_moves::{Edit, Set};
-use std::alloc::Global;
 
-/// The set that gives the chosen variable of an entity the chosen value.
-fn chosen_set(class: u8, choice: Choice, id: u32) -> Set
-    ensures { result ≡ chosen_set class choice id }
-{
-    Set {
-        class,
-        id,
-        var: choice.var,
-        value: Some(choice.value),
-    }
-}
-
-/// The variable of an entity that the words pick, with the value that it gets.
-fn picked_change(plan: &Plan, words: &[u32; 8]) -> Option<Set>
+/// The variable of a movable entity that the words pick, with what it is set to.
+fn picked_change(plan: &Plan, pool: &Pool, words: &[u32; 8]) -> Option<Set>
+    requires { IsPoolOf plan.now pool.now }
     ensures { option_map (λ set. set ∷ []) result ≡ change_of plan.now words.now }
 {
-    let entity = picked_entity(plan, words[1])?;
+    let entity = picked(words[1], pool.entities())?;
     let choice = picked_choice(plan, entity.class, words[2], words[3])?;
     Some(chosen_set(entity.class, choice, entity.id))
 }
 
-/// One variable of one entity gets a value of its range.
-#[tactic(auto, using(crate::proofs::SetLists::with_new_first))]
-pub fn change(alloc: Global, plan: &Plan, words: &[u32; 8]) -> Result<Option<Edit>, Memory>
-    ensures { IfOk result (λ edit. edit ≡ change_of plan.now words.now) }
+/// One variable of one movable entity is set to one of its choices.
+pub fn change(plan: &Plan, pool: &Pool, words: &[u32; 8], into: &mut Edit) -> Result<bool, Memory>
+    requires pool { IsPoolOf plan.now pool.now }
+    requires empty { into.old ≡ [] }
+    ensures { Puts result (change_of plan.now words.now) into.new }
 {
-    let Some(set) = picked_change(plan, words) else {
-        return Ok(None);
+    let Some(set) = picked_change(plan, pool, words) else {
+        return Ok(false);
     };
-    let mut edit = Edit::new(alloc);
-    put(&mut edit, set)?;
-    Ok(Some(edit))
+    into.put_new(set)?;
+    Ok(true)
 }
 
-/// One variable of all members of a pillar gets the chosen value.
-fn change_pillar(
-    alloc: Global,
-    class: u8,
-    entities: &[Raw],
-    pillar: &[Option<u32>],
-    choice: Choice,
-) -> Result<Edit, Memory>
-    ensures { IfOk result (λ edit. edit ≡ pillar_edit_of class entities.now pillar.now choice) }
-{
-    let mut edit = Edit::new(alloc);
-    for raw in entities {
-        if same_values(raw.values.as_slice(), pillar) {
-            put(&mut edit, chosen_set(class, choice, raw.id))?;
-        }
-    }
-    Ok(edit)
-}
-
-/// One variable of all members of a pillar of this class gets a value of its range.
-#[tactic(auto, using(crate::proofs::Bounds::few))]
+/// One variable of all members of a pillar of these entities is set to one of its choices.
 fn pillar_change_in(
-    alloc: Global,
     plan: &Plan,
-    class: u8,
+    movables: &Movables<'_>,
     words: &[u32; 8],
-) -> Result<Option<Edit>, Memory>
-    ensures { IfOk result (λ edit. edit ≡ pillar_change_in plan.now class words.now) }
+    into: &mut Edit,
+) -> Result<bool, Memory>
+    requires of { AreOf plan.now movables.now }
+    requires links { HaveLinks movables.now }
+    requires empty { into.old ≡ [] }
+    ensures { Puts result (pillar_change_in plan.now movables.now.class words.now) into.new }
 {
-    let entities = plan.facts(class);
-    let pillars = find_pillars(alloc, entities)?;
-    let Some(pillar) = picked_pillar(words[2], &pillars) else {
-        return Ok(None);
+    let Some(head) = picked_pillar(movables, words[2]) else {
+        return Ok(false);
     };
-    let Some(choice) = picked_choice(plan, class, words[3], words[4]) else {
-        return Ok(None);
+    let Some(choice) = picked_choice(plan, movables.class, words[3], words[4]) else {
+        return Ok(false);
     };
-    let edit = change_pillar(alloc, class, entities, pillar, choice)?;
-    Ok(Some(edit))
+    change_members(movables, head, choice, into)?;
+    Ok(true)
 }
 
-/// One variable of all members of a pillar gets a value of its range.
-pub fn pillar_change(alloc: Global, plan: &Plan, words: &[u32; 8]) -> Result<Option<Edit>, Memory>
-    ensures { IfOk result (λ edit. edit ≡ in_picked_class pillar_change_in plan.now words.now) }
+/// One variable of all members of a pillar is set to one of its choices.
+pub fn pillar_change(
+    plan: &Plan,
+    pool: &mut Pool,
+    words: &[u32; 8],
+    into: &mut Edit,
+) -> Result<bool, Memory>
+    requires pool { IsPoolOf plan.now pool.old }
+    requires empty { into.old ≡ [] }
+    ensures pool { IsPoolOf plan.now pool.new }
+    ensures edit { Puts result (in_picked_class pillar_change_in plan.now words.now) into.new }
 {
-    let Some(class) = picked_class(plan, words[1]) else {
-        return Ok(None);
+    let Some(place) = pool.picked_class(words[1]) else {
+        return Ok(false);
     };
-    pillar_change_in(alloc, plan, class, words)
+    pool.find_pillars(plan, place)?;
+    let movables = pool.class_at(place).movables(plan);
+    pillar_change_in(plan, &movables, words, into)
 }

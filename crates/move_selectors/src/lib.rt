@@ -2,14 +2,16 @@
 #![tactic(auto)]
 
 mod changes;
-mod entities;
-mod picks;
+mod class_pool;
+mod links;
+mod movables;
 mod pillars;
+mod pool;
 mod selectors;
-mod sets;
 mod swaps;
 mod values;
 
+pub use pool::Pool;
 pub use selectors::candidate;
 
 #[cfg(test)]

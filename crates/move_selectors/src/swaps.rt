@@ -1,128 +1,102 @@
-ghost use Rattle.std.specs.Prelude.{◌≡◌, ◌≤◌, IfOk, OnOk, length, fold};
-ghost use Rattle.move_selectors.specs.Sets.{with_new};
-ghost use Rattle.move_selectors.specs.Candidates.{exchange_of, swap_in, exchanged_sets, pillar_exchange_of, pillar_swap_in, in_picked_class};
+ghost use Rattle.std.specs.Prelude.{◌≡◌, ◌≤◌, [], All, length};
+ghost use Rattle.move_selectors.specs.Candidates.{exchange_of, swap_among, swap_in, pillar_swap_among, pillar_swap_in, in_picked_class};
+ghost use Rattle.move_selectors.specs.Movables.{AreThere, HaveLinks, entities_in};
+ghost use Rattle.move_selectors.specs.Pool.{IsPoolOf};
+ghost use Rattle.move_selectors.specs.Puts.{Puts};
 
-use crate::entities::picked_class;
-use crate::picks::picked;
-use crate::pillars::{find_pillars, picked_pillar, same_values};
-use crate::sets::put_values;
+use crate::movables::{Movables, same_values};
+use crate::pillars::{exchange_members, picked_pillar, put_values};
+use crate::pool::Pool;
 use plan_facts::{Memory, Plan, Raw};
 use plan_moves::Edit;
-use std::alloc::Global;
 
 /// Two entities of a class get each other's values; none where they are one.
 #[tactic(auto, unfolding(crate::specs::Candidates::exchange_of), using(crate::proofs::SetLists::edit_of_two))]
-fn exchange(alloc: Global, class: u8, one: &Raw, other: &Raw) -> Result<Option<Edit>, Memory>
+fn exchange(class: u8, one: &Raw, other: &Raw, into: &mut Edit) -> Result<bool, Memory>
     requires one { length one.now.values ≤ 2 }
     requires other { length other.now.values ≤ 2 }
-    ensures { IfOk result (λ edit. edit ≡ exchange_of class one.now other.now) }
+    requires empty { into.old ≡ [] }
+    ensures { Puts result (exchange_of class one.now other.now) into.new }
 {
     if one.id == other.id {
-        return Ok(None);
+        return Ok(false);
     }
-    let mut edit = Edit::new(alloc);
-    put_values(&mut edit, class, one.id, other.values.as_slice())?;
-    put_values(&mut edit, class, other.id, one.values.as_slice())?;
-    Ok(Some(edit))
+    put_values(into, class, one.id, other.values.as_slice())?;
+    put_values(into, class, other.id, one.values.as_slice())?;
+    Ok(true)
 }
 
-/// Two entities of this class, each picked by a word, get each other's values.
-#[tactic(auto, using(crate::proofs::Bounds::few))]
-fn swap_in(alloc: Global, plan: &Plan, class: u8, words: &[u32; 8]) -> Result<Option<Edit>, Memory>
-    ensures { IfOk result (λ edit. edit ≡ swap_in plan.now class words.now) }
+/// Two of these entities, each picked by a word, get each other's values.
+fn swap_among(movables: &Movables<'_>, words: &[u32; 8], into: &mut Edit) -> Result<bool, Memory>
+    requires there { AreThere movables.now }
+    requires short { All (λ raw. length raw.values ≤ 2) (entities_in movables.now) }
+    requires empty { into.old ≡ [] }
+    ensures { Puts result (swap_among movables.now.class (entities_in movables.now) words.now) into.new }
 {
-    let entities = plan.facts(class);
-    let Some(one) = picked(words[2], entities) else {
-        return Ok(None);
+    let Some(one) = movables.picked(words[2]) else {
+        return Ok(false);
     };
-    let Some(other) = picked(words[3], entities) else {
-        return Ok(None);
+    let Some(other) = movables.picked(words[3]) else {
+        return Ok(false);
     };
-    exchange(alloc, class, one, other)
+    exchange(movables.class, one, other, into)
 }
 
-/// Two entities of a class, each picked by a word, get each other's values.
-pub fn swap(alloc: Global, plan: &Plan, words: &[u32; 8]) -> Result<Option<Edit>, Memory>
-    ensures { IfOk result (λ edit. edit ≡ in_picked_class swap_in plan.now words.now) }
+/// Two movable entities of a class, each picked by a word, get each other's values.
+pub fn swap(plan: &Plan, pool: &Pool, words: &[u32; 8], into: &mut Edit) -> Result<bool, Memory>
+    requires pool { IsPoolOf plan.now pool.now }
+    requires empty { into.old ≡ [] }
+    ensures { Puts result (in_picked_class swap_in plan.now words.now) into.new }
 {
-    let Some(class) = picked_class(plan, words[1]) else {
-        return Ok(None);
+    let Some(place) = pool.picked_class(words[1]) else {
+        return Ok(false);
     };
-    swap_in(alloc, plan, class, words)
+    let movables = pool.class_at(place).movables(plan);
+    swap_among(&movables, words, into)
 }
 
-/// Gives a member of one of two pillars the values of the other.
-#[tactic(auto, unfolding(crate::specs::Candidates::exchanged_sets))]
-fn put_exchanged(
-    edit: &mut Edit,
-    class: u8,
-    raw: &Raw,
-    one: &[Option<u32>],
-    other: &[Option<u32>],
-) -> Result<(), Memory>
-    requires one { length one.now ≤ 2 }
-    requires other { length other.now ≤ 2 }
-    ensures { OnOk result (edit.new ≡ fold with_new edit.old (exchanged_sets class one.now other.now raw.now)) }
-{
-    let values = raw.values.as_slice();
-    if same_values(values, one) {
-        put_values(edit, class, raw.id, other)?;
-    } else if same_values(values, other) {
-        put_values(edit, class, raw.id, one)?;
-    }
-    Ok(())
-}
-
-/// All members of two pillars get the other pillar's values; none where the pillars are one.
-#[tactic(auto, unfolding(crate::specs::Candidates::pillar_exchange_of))]
-fn exchange_pillars(
-    alloc: Global,
-    class: u8,
-    entities: &[Raw],
-    one: &[Option<u32>],
-    other: &[Option<u32>],
-) -> Result<Option<Edit>, Memory>
-    requires one { length one.now ≤ 2 }
-    requires other { length other.now ≤ 2 }
-    ensures { IfOk result (λ edit. edit ≡ pillar_exchange_of class entities.now one.now other.now) }
-{
-    if same_values(one, other) {
-        return Ok(None);
-    }
-    let mut edit = Edit::new(alloc);
-    for raw in entities {
-        put_exchanged(&mut edit, class, raw, one, other)?;
-    }
-    Ok(Some(edit))
-}
-
-/// Two pillars of this class, each picked by a word, are exchanged.
-#[tactic(auto, using(crate::proofs::Bounds::few))]
-fn pillar_swap_in(
-    alloc: Global,
-    plan: &Plan,
-    class: u8,
+/// Two pillars of these entities, each picked by a word, get each other's values; none where they are one.
+fn pillar_swap_among(
+    movables: &Movables<'_>,
     words: &[u32; 8],
-) -> Result<Option<Edit>, Memory>
-    ensures { IfOk result (λ edit. edit ≡ pillar_swap_in plan.now class words.now) }
+    into: &mut Edit,
+) -> Result<bool, Memory>
+    requires there { AreThere movables.now }
+    requires short { All (λ raw. length raw.values ≤ 2) (entities_in movables.now) }
+    requires links { HaveLinks movables.now }
+    requires empty { into.old ≡ [] }
+    ensures { let m = movables.now in
+        Puts result (pillar_swap_among m.class m.nullables.now (entities_in m) words.now) into.new }
 {
-    let entities = plan.facts(class);
-    let pillars = find_pillars(alloc, entities)?;
-    let Some(one) = picked_pillar(words[2], &pillars) else {
-        return Ok(None);
+    let Some(one) = picked_pillar(movables, words[2]) else {
+        return Ok(false);
     };
-    let Some(other) = picked_pillar(words[3], &pillars) else {
-        return Ok(None);
+    let Some(other) = picked_pillar(movables, words[3]) else {
+        return Ok(false);
     };
-    exchange_pillars(alloc, class, entities, one, other)
+    if same_values(movables.values(one), movables.values(other)) {
+        return Ok(false);
+    }
+    exchange_members(movables, one, other, into)?;
+    Ok(true)
 }
 
 /// Two pillars of a class, each picked by a word, get each other's values.
-pub fn pillar_swap(alloc: Global, plan: &Plan, words: &[u32; 8]) -> Result<Option<Edit>, Memory>
-    ensures { IfOk result (λ edit. edit ≡ in_picked_class pillar_swap_in plan.now words.now) }
+pub fn pillar_swap(
+    plan: &Plan,
+    pool: &mut Pool,
+    words: &[u32; 8],
+    into: &mut Edit,
+) -> Result<bool, Memory>
+    requires pool { IsPoolOf plan.now pool.old }
+    requires empty { into.old ≡ [] }
+    ensures pool { IsPoolOf plan.now pool.new }
+    ensures edit { Puts result (in_picked_class pillar_swap_in plan.now words.now) into.new }
 {
-    let Some(class) = picked_class(plan, words[1]) else {
-        return Ok(None);
+    let Some(place) = pool.picked_class(words[1]) else {
+        return Ok(false);
     };
-    pillar_swap_in(alloc, plan, class, words)
+    pool.find_pillars(plan, place)?;
+    let movables = pool.class_at(place).movables(plan);
+    pillar_swap_among(&movables, words, into)
 }

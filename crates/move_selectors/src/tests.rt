@@ -1,6 +1,7 @@
-ghost use Rattle.std.specs.Prelude.{[], ◌∷◌, Some, None, slice_index};
+ghost use Rattle.std.specs.Prelude.{◌≡◌, [], ◌∷◌, Some, None, slice_index};
+ghost use Rattle.plan_moves.specs.Edits.{edit_of};
 
-use crate::candidate;
+use crate::{Pool, candidate};
 use plan_facts::{ClassDef, List, Memory, Plan, Raw, Schema, Text, VarDef};
 use plan_moves::{Edit, MoveMaker, Set};
 use plan_settings::Selector;
@@ -11,18 +12,22 @@ use std::test::Fail;
 /// A fact's id, and the values of its variables.
 type Sketch = (u32, &'static [Option<u32>]);
 
+/// A variable: its name, the class of its values, and whether it may stay null.
+type Var = (&'static str, u8, bool);
+
 /// The id of an entity, a variable, and the value that it gets.
 type Change = (u32, u8, Option<u32>);
 
 /// Eight words, and what the edit that they make changes; or that they make none.
 type Case = ([u32; 8], Option<&'static [Change]>);
 
-fn class_of(alloc: Global, name: &str, vars: &[(&'static str, u8)]) -> Result<ClassDef, Memory> {
+fn class_of(alloc: Global, name: &str, vars: &[Var]) -> Result<ClassDef, Memory> {
     let mut var_defs = List::new(alloc);
     for var in vars {
         var_defs.push(VarDef {
             name: Text::from_slice(alloc, var.0.as_bytes())?,
             values: var.1,
+            nullable: var.2,
         })?;
     }
     Ok(ClassDef {
@@ -32,13 +37,17 @@ fn class_of(alloc: Global, name: &str, vars: &[(&'static str, u8)]) -> Result<Cl
     })
 }
 
-fn list_of(alloc: Global, sketches: &[Sketch]) -> Result<List<Raw>, Memory> {
+/// The facts with ids from this one on are pinned; a test that pins none takes the greatest id.
+const NONE_PINNED: u32 = u32::MAX;
+
+fn list_of(alloc: Global, sketches: &[Sketch], pinned_from: u32) -> Result<List<Raw>, Memory> {
     let mut raws = List::new(alloc);
     for sketch in sketches {
         raws.push(Raw {
             id: sketch.0,
             fields: List::new(alloc),
             values: List::from_slice(alloc, sketch.1)?,
+            pinned: sketch.0 >= pinned_from,
         })?;
     }
     Ok(raws)
@@ -46,25 +55,31 @@ fn list_of(alloc: Global, sketches: &[Sketch]) -> Result<List<Raw>, Memory> {
 
 /// Slots, rooms, and lessons with a slot and a room.
 fn lessons(alloc: Global) -> Result<Schema, Fail> {
+    let vars = [("slot", 0, false), ("room", 1, false)];
     let mut classes = List::new(alloc);
     classes.push(class_of(alloc, "slot", &[])?)?;
     classes.push(class_of(alloc, "room", &[])?)?;
-    classes.push(class_of(alloc, "lesson", &[("slot", 0), ("room", 1)])?)?;
+    classes.push(class_of(alloc, "lesson", &vars)?)?;
     Ok(Schema::build(classes)?)
 }
 
-/// Employees, and shifts with a worker.
-fn shifts(alloc: Global) -> Result<Schema, Fail> {
+/// Employees, and shifts with a worker, who may stay null or not.
+fn shifts(alloc: Global, nullable: bool) -> Result<Schema, Fail> {
     let mut classes = List::new(alloc);
     classes.push(class_of(alloc, "employee", &[])?)?;
-    classes.push(class_of(alloc, "shift", &[("worker", 0)])?)?;
+    classes.push(class_of(alloc, "shift", &[("worker", 0, nullable)])?)?;
     Ok(Schema::build(classes)?)
 }
 
-fn plan_of<'a>(alloc: Global, schema: &Schema, classes: &'a [&'a [Sketch]]) -> Result<Plan, Fail> {
+fn plan_of<'a>(
+    alloc: Global,
+    schema: &Schema,
+    classes: &'a [&'a [Sketch]],
+    pinned_from: u32,
+) -> Result<Plan, Fail> {
     let mut lists = List::new(alloc);
     for sketches in classes {
-        lists.push(list_of(alloc, sketches)?)?;
+        lists.push(list_of(alloc, sketches, pinned_from)?)?;
     }
     Ok(Plan::of(alloc, schema, lists)?)
 }
@@ -86,12 +101,12 @@ fn expect(
     cases: &[Case],
 ) -> Result<(), Fail> {
     assert!(rt; selectors.len() >= 1 && selectors.len() <= 8);
+    let mut pool = Pool::of(alloc, plan)?;
+    let mut edit = Edit::new(alloc);
     for case in cases {
-        let edit = candidate(alloc, schema, plan, selectors, &[], &case.0)?;
-        match (edit, case.1) {
-            (Some(edit), Some(changes)) => expect_sets(rt, &edit, changes),
-            (edit, changes) => assert!(rt; edit.is_none() && changes.is_none()),
-        }
+        let made = candidate(schema, plan, &mut pool, selectors, &[], &case.0, &mut edit)?;
+        assert_eq!(rt; made, case.1.is_some());
+        expect_sets(rt, &edit, case.1.unwrap_or(&[]));
     }
     Ok(())
 }
@@ -127,6 +142,7 @@ fn one_variable_of_a_lesson_changes(rt: HostRuntime) -> Result<(), Fail> {
                 (31, &[Some(3), Some(2)]),
             ],
         ],
+        NONE_PINNED,
     )?;
     let cases: &[Case] = &[
         (FAR, Some(&[(31, 1, Some(1))])),
@@ -205,7 +221,7 @@ const PILLAR_SWAPS: &[Case] = &[
 fn lessons_and_pillars_of_lessons_swap(rt: HostRuntime) -> Result<(), Fail> {
     let alloc = rt.alloc();
     let schema = lessons(alloc)?;
-    let plan = plan_of(alloc, &schema, SCHOOL)?;
+    let plan = plan_of(alloc, &schema, SCHOOL, NONE_PINNED)?;
     expect(&rt, alloc, &schema, &plan, &[Selector::Swap], SWAPS)?;
     expect(
         &rt,
@@ -270,28 +286,16 @@ const PICKS: &[Case] = &[
 #[test]
 fn the_first_word_picks_a_selector(rt: HostRuntime) -> Result<(), Fail> {
     let alloc = rt.alloc();
-    let schema = shifts(alloc)?;
-    let plan = plan_of(alloc, &schema, WARD)?;
+    let schema = shifts(alloc, false)?;
+    let plan = plan_of(alloc, &schema, WARD, NONE_PINNED)?;
     expect(&rt, alloc, &schema, &plan, SWAP_OR_PILLAR, PICKS)
-}
-
-fn expect_none(
-    rt: &impl Abort,
-    alloc: Global,
-    schema: &Schema,
-    plan: &Plan,
-    selector: Selector,
-) -> Result<(), Fail> {
-    let edit = candidate(alloc, schema, plan, &[selector], &[], &FAR)?;
-    assert!(rt; edit.is_none());
-    Ok(())
 }
 
 #[test]
 fn nothing_is_picked_of_an_empty_list(rt: HostRuntime) -> Result<(), Fail> {
     let alloc = rt.alloc();
-    let schema = shifts(alloc)?;
-    let plan = plan_of(alloc, &schema, &[&[], &[]])?;
+    let schema = shifts(alloc, false)?;
+    let plan = plan_of(alloc, &schema, &[&[], &[]], NONE_PINNED)?;
     for selector in [
         Selector::Change,
         Selector::Swap,
@@ -299,8 +303,155 @@ fn nothing_is_picked_of_an_empty_list(rt: HostRuntime) -> Result<(), Fail> {
         Selector::PillarSwap,
         Selector::Own,
     ] {
-        expect_none(&rt, alloc, &schema, &plan, selector)?;
+        expect(&rt, alloc, &schema, &plan, &[selector], &[(FAR, None)])?;
     }
+    Ok(())
+}
+
+// The words of the first two candidates of the first step under seed 0.
+const FIRST: [u32; 8] = [
+    0xade0b876, 0x903df1a0, 0xe56a5d40, 0x28bd8653, 0xb819d2bd, 0x1aed8da0, 0xccef36a8, 0xc70d778b,
+];
+
+const SECOND: [u32; 8] = [0x7c5941da, 0x8d485751, 0x3fe02477, 0x374ad8b8, 0, 0, 0, 0];
+
+/// Two employees, and two shifts of the first.
+const DUTY: &[&[Sketch]] = &[&[(1, &[]), (2, &[])], &[(1, &[Some(1)]), (2, &[Some(1)])]];
+
+/// What is made where the second shift is pinned: the first alone may move, and is a pillar by itself.
+const PINNED: &[(Selector, &[Case])] = &[
+    (
+        Selector::Change,
+        &[
+            (FIRST, Some(&[(1, 0, Some(1))])),
+            (SECOND, Some(&[(1, 0, Some(1))])),
+        ],
+    ),
+    (Selector::Swap, &[(FIRST, None), (SECOND, None)]),
+    (Selector::PillarChange, &[(FIRST, Some(&[(1, 0, Some(2))]))]),
+    (Selector::PillarSwap, &[(FIRST, None)]),
+];
+
+#[test]
+fn a_pinned_entity_is_never_picked(rt: HostRuntime) -> Result<(), Fail> {
+    let alloc = rt.alloc();
+    let schema = shifts(alloc, false)?;
+    let plan = plan_of(alloc, &schema, DUTY, 2)?;
+    for (selector, cases) in PINNED {
+        expect(&rt, alloc, &schema, &plan, &[*selector], cases)?;
+    }
+    Ok(())
+}
+
+/// Two employees, and shifts of which two have no worker.
+const OPEN: &[&[Sketch]] = &[
+    &[(1, &[]), (2, &[])],
+    &[
+        (1, &[Some(2)]),
+        (2, &[None]),
+        (3, &[Some(2)]),
+        (4, &[None]),
+        (5, &[Some(1)]),
+    ],
+];
+
+/// The greatest word, which picks the last of each list.
+const LAST: u32 = u32::MAX;
+
+/// What is made where a worker may stay null: null is the last of three choices, and shifts without a worker are the
+/// second of three pillars.
+const NULLABLE: &[(Selector, &[Case])] = &[
+    (
+        Selector::Change,
+        &[
+            ([0, 0, 0, LAST, 0, 0, 0, 0], Some(&[(1, 0, None)])),
+            ([0, LAST, 0, 0, 0, 0, 0, 0], Some(&[(5, 0, Some(1))])),
+        ],
+    ),
+    (
+        Selector::PillarChange,
+        &[
+            (
+                [0, 0, 0, 0, LAST, 0, 0, 0],
+                Some(&[(1, 0, None), (3, 0, None)]),
+            ),
+            (
+                [0, 0, 1 << 31, 0, 0, 0, 0, 0],
+                Some(&[(2, 0, Some(1)), (4, 0, Some(1))]),
+            ),
+        ],
+    ),
+    (
+        Selector::PillarSwap,
+        &[
+            (
+                [0, 0, 0, 1 << 31, 0, 0, 0, 0],
+                Some(&[(1, 0, None), (2, 0, Some(2)), (3, 0, None), (4, 0, Some(2))]),
+            ),
+            (
+                [0, 0, LAST, 1 << 31, 0, 0, 0, 0],
+                Some(&[(2, 0, Some(1)), (4, 0, Some(1)), (5, 0, None)]),
+            ),
+            ([0, 0, LAST, LAST, 0, 0, 0, 0], None),
+        ],
+    ),
+];
+
+#[test]
+fn null_is_a_choice_and_makes_a_pillar(rt: HostRuntime) -> Result<(), Fail> {
+    let alloc = rt.alloc();
+    let schema = shifts(alloc, true)?;
+    let plan = plan_of(alloc, &schema, OPEN, NONE_PINNED)?;
+    for (selector, cases) in NULLABLE {
+        expect(&rt, alloc, &schema, &plan, &[*selector], cases)?;
+    }
+    Ok(())
+}
+
+/// Words that pick the first pillar and its last choice.
+const FIRST_PILLAR: [u32; 8] = [0, 0, 0, 0, LAST, 0, 0, 0];
+
+#[test]
+fn pillars_are_found_anew_after_an_edit(rt: HostRuntime) -> Result<(), Fail> {
+    let alloc = rt.alloc();
+    let schema = shifts(alloc, false)?;
+    let mut plan = plan_of(alloc, &schema, DUTY, NONE_PINNED)?;
+    let mut pool = Pool::of(alloc, &plan)?;
+    let mut edit = Edit::new(alloc);
+    let selectors = [Selector::PillarChange];
+    assert!(rt;
+        candidate(
+            &schema,
+            &plan,
+            &mut pool,
+            &selectors,
+            &[],
+            &FIRST_PILLAR,
+            &mut edit
+        )?
+    );
+    expect_sets(&rt, &edit, &[(1, 0, Some(2)), (2, 0, Some(2))]);
+    edit.fill(&[Set {
+        class: 1,
+        id: 1,
+        var: 0,
+        value: None,
+    }])?;
+    assert!(rt; edit.doable(&schema, &plan));
+    edit.apply(&mut plan);
+    pool.forget_pillars();
+    assert!(rt;
+        candidate(
+            &schema,
+            &plan,
+            &mut pool,
+            &selectors,
+            &[],
+            &FIRST_PILLAR,
+            &mut edit
+        )?
+    );
+    expect_sets(&rt, &edit, &[(2, 0, Some(2))]);
     Ok(())
 }
 
@@ -311,32 +462,45 @@ struct Clears {
 }
 
 impl MoveMaker for Clears {
-    ghost made = { λ maker _ words. Some (record { class = 1; id = slice_index words 7; var = maker.var; value = None } ∷ []) };
+    ghost made = { λ maker _ words. Some (edit_of (record { class = 1; id = slice_index words 7; var = maker.var; value = None } ∷ [])) };
 
     fn make(&self, _: &Plan, words: &[u32; 8], into: &mut Edit) -> Result<bool, Memory> {
-        into.put(Set {
-            class: 1,
-            id: words[7],
-            var: self.var,
-            value: None,
-        })
+        into.fill(&[cleared(words[7], self.var)])?;
+        Ok(true)
+    }
+}
+
+fn cleared(id: u32, var: u8) -> Set
+    ensures { result ≡ record { class = 1; id = id; var = var; value = None } }
+{
+    Set {
+        class: 1,
+        id,
+        var,
+        value: None,
     }
 }
 
 #[test]
 fn the_second_word_picks_a_maker(rt: HostRuntime) -> Result<(), Fail> {
     let alloc = rt.alloc();
-    let schema = shifts(alloc)?;
-    let plan = plan_of(alloc, &schema, &[&[], &[]])?;
+    let schema = shifts(alloc, false)?;
+    let plan = plan_of(alloc, &schema, &[&[], &[]], NONE_PINNED)?;
     let first: Box<dyn MoveMaker> = Box::new(alloc, Clears { var: 4 })?;
     let second: Box<dyn MoveMaker> = Box::new(alloc, Clears { var: 5 })?;
     let makers = [first, second];
+    let mut edit = Edit::new(alloc);
     for (words, change) in [
         ([9, 2147483647, 0, 0, 0, 0, 0, 6], (6, 4, None)),
         ([9, 2147483648, 0, 0, 0, 0, 0, 7], (7, 5, None)),
     ] {
-        let edit = candidate(alloc, &schema, &plan, &[Selector::Own], &makers, &words)?;
-        expect_sets(&rt, &edit.ok_or("no edit")?, &[change]);
+        let selectors = [Selector::Own];
+        let mut pool = Pool::of(alloc, &plan)?;
+        let made = candidate(
+            &schema, &plan, &mut pool, &selectors, &makers, &words, &mut edit,
+        )?;
+        assert!(rt; made);
+        expect_sets(&rt, &edit, &[change]);
     }
     Ok(())
 }

@@ -11,6 +11,10 @@ use rand_core::SeedableRng;
 use rand_core::utils::NextWord;
 use std::marker::Model;
 
+mod picks;
+
+pub use picks::{picked, picked_place};
+
 #[cfg(test)]
 mod tests;
 

@@ -14,7 +14,7 @@ use Rattle.plan_facts.specs.PlanFaults.{put_by_id, by_id}
 use Rattle.plan_facts.proofs.Places.{increasing_head, increasing_tail, other_eqb}
 
 abbrev no_record : Raw
-no_record = record { id = 0; fields = []; values = [] }
+no_record = record { id = 0; fields = []; values = []; pinned = false }
 
 -- the first two of a list in each other's place
 swapped_front : (one other : Raw) (rest : List Raw) → IsPermutation (one ∷ other ∷ rest) (other ∷ one ∷ rest)

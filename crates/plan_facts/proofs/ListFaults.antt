@@ -1,5 +1,5 @@
 -- How a loop over the classes finds the first fault of their lists.
-use Rattle.std.proofs.Common.{◌≡◌, ◌<◌, ◌≤◌, ◌+◌, ◌∙◌, ℕ, Bool, Option, Some, None, List, [], ◌∷◌, ◌++◌, length, take, drop, zip, get_or, slice_get, sym, ap, subst, arith}
+use Rattle.std.proofs.Common.{◌≡◌, ◌<◌, ◌≤◌, ◌+◌, ◌∙◌, ℕ, Bool, Option, Some, None, List, [], ◌∷◌, ◌++◌, length, take, drop, zip, get_or, slice_get, sym, ap, subst, arith, inl, inr}
 use Rattle.std.specs.Option.{option_or}
 use Rattle.std.proofs.lemmas.List.{length-take-le, take_more}
 use Rattle.std.proofs.lemmas.Option.{get_or_from_slice_get}
@@ -9,7 +9,8 @@ use Rattle.plan_facts.specs.declared.record.Raw.{Raw}
 use Rattle.plan_facts.specs.declared.record.ClassDef.{ClassDef}
 use Rattle.plan_facts.specs.declared.fault.PlanFault.{PlanFault}
 use Rattle.plan_facts.specs.declared.fault.PlanFault.TheVariants.{Memory}
-use Rattle.plan_facts.specs.PlanFaults.{record_fault, class_fault, ranges_of, record_values_fault, class_values_fault, IsRefusal}
+use Rattle.plan_facts.specs.PlanFaults.{record_fault, class_fault, ranges_of, record_values_fault, class_values_fault}
+use Rattle.plan_facts.specs.Refusal.{IsRefusal}
 use Rattle.plan_facts.specs.Listed.{Ids, HasIds, HaveIds}
 use Rattle.plan_facts.proofs.FirstLaws.{first_fault-from, first_fault-end}
 
@@ -50,14 +51,13 @@ class_values_at live classes lists class def raws within same at_def at_raws =
     ∙ ap (λ (n : ℕ). option_or (first_fault (record_values_fault live n (ranges_of def)) [] raws) (first_fault (class_values_fault live) (take (class + 1) (zip classes lists)) (drop (class + 1) (zip classes lists)))) (before classes lists class within same)
 
 -- a refusal for the first of two faults is one for both
-pub refused_first : (whole first rest : Option PlanFault) (fault : PlanFault) → whole ≡ option_or first rest → IsRefusal first fault → IsRefusal whole fault
-refused_first whole first rest Memory is refused = tt
-refused_first whole first rest fault is refused = is ∙ ap (λ (o : Option PlanFault). option_or o rest) refused
+pub refused_first : (whole first rest : Option PlanFault) (fault : PlanFault) → whole ≡ option_or first rest → IsRefusal Memory first fault → IsRefusal Memory whole fault
+refused_first whole first rest fault is (inl memory) = inl memory
+refused_first whole first rest fault is (inr found) = inr (is ∙ ap (λ (o : Option PlanFault). option_or o rest) found)
 
 -- a fault that stands is a refusal
-pub refused_by : (whole : Option PlanFault) (fault : PlanFault) → whole ≡ Some fault → IsRefusal whole fault
-refused_by whole Memory is = tt
-refused_by whole fault is = is
+pub refused_by : (whole : Option PlanFault) (fault : PlanFault) → whole ≡ Some fault → IsRefusal Memory whole fault
+refused_by whole fault is = inr is
 
 -- where the first of two faults isn't there, the other one counts
 pub passed_first : (whole first rest : Option PlanFault) → whole ≡ option_or first rest → first ≡ None → whole ≡ rest

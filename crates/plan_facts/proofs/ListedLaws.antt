@@ -1,4 +1,5 @@
 -- The ids of a list's records, one record at a time.
+use Rattle.plan_facts.specs.Limits.{field_limit}
 use Rattle.std.proofs.Common.{◌≡◌, ◌<◌, ◌≤◌, ◌+◌, ◌∙◌, ℕ, Bool, true, false, cond, ◌||◌, nat_lt, Option, Some, None, is_some, List, [], ◌∷◌, ◌++◌, length, take, drop, get_or, eqb, refl, sym, ap, arith}
 use Rattle.std.proofs.lemmas.Bool.Decides.{nat_tests}
 use Rattle.std.proofs.lemmas.List.{take_more}
@@ -30,12 +31,12 @@ listed_more raws place raw old new within read so_far grown = λ id.
 not_below : (a b : ℕ) → b ≤ a → nat_lt a b ≡ false
 not_below a b le = grind (arith, nat_tests)
 
-good_id : (earlier : List Raw) (id : ℕ) → 1 ≤ id → id ≤ 1000000000 → is_some (record_with_id id earlier) ≡ false → is_bad_id earlier id ≡ false
+good_id : (earlier : List Raw) (id : ℕ) → 1 ≤ id → id ≤ field_limit → is_some (record_with_id id earlier) ≡ false → is_bad_id earlier id ≡ false
 good_id earlier id low high fresh =
-    ap (λ (b : Bool). b || nat_lt 1000000000 id || is_some (record_with_id id earlier)) (not_below id 1 low) ∙ ap (λ (b : Bool). b || is_some (record_with_id id earlier)) (not_below 1000000000 id high) ∙ fresh
+    ap (λ (b : Bool). b || nat_lt field_limit id || is_some (record_with_id id earlier)) (not_below id 1 low) ∙ ap (λ (b : Bool). b || is_some (record_with_id id earlier)) (not_below field_limit id high) ∙ fresh
 
 -- a record with a good id and good fields has no fault
-pub good_record : (class count : ℕ) (earlier : List Raw) (raw : Raw) → 1 ≤ raw.id → raw.id ≤ 1000000000 → is_some (record_with_id raw.id earlier) ≡ false → None ≡ fields_fault class raw.id count raw.fields → record_fault class count earlier raw ≡ None
+pub good_record : (class count : ℕ) (earlier : List Raw) (raw : Raw) → 1 ≤ raw.id → raw.id ≤ field_limit → is_some (record_with_id raw.id earlier) ≡ false → None ≡ fields_fault class raw.id count raw.fields → record_fault class count earlier raw ≡ None
 good_record class count earlier raw low high fresh fields =
     ap (λ (b : Bool). option_or (cond b (Some (BadId class raw.id)) None) (fields_fault class raw.id count raw.fields)) (good_id earlier raw.id low high fresh) ∙ sym fields
 

@@ -1,23 +1,18 @@
 -- What can be read off a plan after a change, and laws of the changes, for the crates above.
-use Rattle.std.proofs.Common.{◌≡◌, ◌≢◌, ◌==◌, ◌<◌, ◌≤◌, ◌∙◌, ℕ, ℤ, zero, suc, Bool, true, false, cond, Option, Some, None, option_map, IsSomeAnd, List, [], ◌∷◌, length, zip, map, set, get_or, eqb, refl, sym, ap, subst, inl, inr, arith, All}
+use Rattle.std.proofs.Common.{◌≡◌, ◌≢◌, ◌==◌, ◌<◌, ◌≤◌, ◌∙◌, ℕ, ℤ, suc, Bool, true, false, cond, Option, Some, None, option_map, IsSomeAnd, List, [], ◌∷◌, length, zip, map, set, get_or, eqb, refl, sym, ap, subst, inl, inr, arith, All}
 use Rattle.std.proofs.lemmas.Bool.{cases_eq, cases_lt}
 use Rattle.std.proofs.lemmas.List.{get_or-set_same, get_or-set_other, set_past, map-set}
 use Rattle.plan_facts.specs.declared.record.Raw.{Raw}
 use Rattle.plan_facts.specs.declared.record.Rec.{Rec}
 use Rattle.plan_facts.specs.declared.record.Value.{Value}
 use Rattle.plan_facts.specs.Plan.{PlanView, ClassView, no_class, class_of, fact_of, record_with_id, range_of, value_of, held_value, resolved, record_of, IsPlan, IsClassOf}
-use Rattle.plan_facts.specs.PlanChanges.{with_class, with_record, with_value, with_field, rec_with_value}
+use Rattle.plan_facts.specs.PlanChanges.{raw_with_value, raw_with_field, with_class, with_record, with_value, with_field, rec_with_value}
+use Rattle.plan_facts.proofs.Lists.{zip-set}
 use Rattle.plan_facts.proofs.Places.{eqb_other, same_eqb}
 use Rattle.plan_facts.proofs.Sound.{class_at, class_past, record_fits}
 use Rattle.plan_facts.proofs.Changed.{class_there}
 
 -- a record with one variable set, and with one field set
-abbrev pub raw_with_value : ℕ → Option ℕ → Raw → Raw
-raw_with_value var value raw = record raw { values = set raw.values var value }
-
-abbrev pub raw_with_field : ℕ → ℤ → Raw → Raw
-raw_with_field field number raw = record raw { fields = set raw.fields field number }
-
 -- a class that was put anew
 pub class_of-with_class : (plan : PlanView) (class : ℕ) (view : ClassView) → class < length plan.classes → class_of (with_class plan class view) class ≡ view
 class_of-with_class plan class view within = get_or-set_same plan.classes class view no_class within
@@ -127,12 +122,6 @@ map-zip_same : {A B C : Type 0} (P : A → Type 0) (f g : A × B → C) → ((x 
 map-zip_same P f g same [] ys all = refl
 map-zip_same P f g same (x ∷ xs) [] all = refl
 map-zip_same P f g same (x ∷ xs) (y ∷ ys) all = λ i. same x y (all 0 x (omega arith)) i ∷ map-zip_same P f g same xs ys (λ k d within. all (suc k) d (omega arith)) i
-
-zip-set : {A B : Type 0} (xs : List A) (ys : List B) (k : ℕ) (d : A) (y : B) → zip xs (set ys k y) ≡ set (zip xs ys) k (get_or xs k d, y)
-zip-set [] ys k d y = refl
-zip-set (x ∷ xs) [] k d y = refl
-zip-set (x ∷ xs) (z ∷ ys) zero d y = refl
-zip-set {A} {B} (x ∷ xs) (z ∷ ys) (suc k) d y = ap (λ (pairs : List (A × B)). (x, z) ∷ pairs) (zip-set xs ys k d y)
 
 -- the value classes of a class of a plan have no variables
 ranges_plain : (plan : PlanView) (n : ℕ) → IsPlan plan → All (λ range. (class_of plan range).ranges ≡ []) (class_of plan n).ranges

@@ -1,4 +1,5 @@
 -- The classes of the plan of some lists, and that it is sound where the lists have no fault.
+use Rattle.plan_facts.specs.Limits.{fact_limit, field_limit}
 use Rattle.std.proofs.Common.{◌≡◌, ◌==◌, ◌<◌, ◌≤◌, ◌∙◌, ℕ, true, false, cond, nat_lt, Option, Some, None, is_some, IsTrue, inl, inr, List, [], ◌∷◌, length, take, zip, map, get_or, refl, sym, ap, subst, arith, All, sum_by}
 use Rattle.std.specs.Option.{option_map_or}
 use Rattle.std.proofs.lemmas.Bool.{cases_lt, false≢true}
@@ -57,7 +58,7 @@ live-by_id raws id =
 -- what lists without a fault are like
 pub record Faultless (classes : List ClassDef) (lists : List (List Raw)) : Type 0 where
   pub same : length lists ≡ length classes
-  pub few : sum_by length lists ≤ 20000
+  pub few : sum_by length lists ≤ fact_limit
   pub records : (n : ℕ) → n < length classes → first_fault (record_fault n (length (def_at classes n).fields)) [] (raws_at lists n) ≡ None
   pub values : (n : ℕ) → n < length classes → first_fault (record_values_fault (is_live (plan_of classes lists)) n (ranges_of (def_at classes n))) [] (raws_at lists n) ≡ None
 
@@ -74,7 +75,7 @@ unfolding plan_fault
 faultless classes lists none =
     let counted = option_or-none (cond (length lists == length classes) None (Some ClassCount)) _ none in
     let same : length lists ≡ length classes = same_eqb (length lists) (length classes) (held_none _ _ counted.0) in
-    let made = option_or-none (cond (nat_lt 20000 (sum_by length lists)) (Some TooManyFacts) None) _ counted.1 in
+    let made = option_or-none (cond (nat_lt fact_limit (sum_by length lists)) (Some TooManyFacts) None) _ counted.1 in
     let few = refused_none _ _ made.0 in
     let faults = option_or-none (first_fault class_fault [] (zip classes lists)) _ made.1 in
     record {
@@ -106,9 +107,9 @@ records_made classes lists n good within =
     record { fields = record_is.counted; numbers = record_is.numbers; values = values_fit (is_live plan) n (get_or (raws_at lists n) k d).id (ranges_of (def_at classes n)) (get_or (raws_at lists n) k d).values values })
 
 -- the ids of a class of the plan are in their limits
-ids_made : (classes : List ClassDef) (lists : List (List Raw)) (n : ℕ) → Faultless classes lists → n < length classes → All (λ id. (1 ≤ id) × (id ≤ 1000000000)) (ids_in (by_id (raws_at lists n)))
+ids_made : (classes : List ClassDef) (lists : List (List Raw)) (n : ℕ) → Faultless classes lists → n < length classes → All (λ id. (1 ≤ id) × (id ≤ field_limit)) (ids_in (by_id (raws_at lists n)))
 ids_made classes lists n good within =
-    All-map (λ id. (1 ≤ id) × (id ≤ 1000000000)) (λ (r : Raw). r.id) (by_id (raws_at lists n)) (All-permutation (λ r. (1 ≤ r.id) × (r.id ≤ 1000000000)) (raws_at lists n) (by_id (raws_at lists n)) (by_id_permutation (raws_at lists n)) (λ k d there.
+    All-map (λ id. (1 ≤ id) × (id ≤ field_limit)) (λ (r : Raw). r.id) (by_id (raws_at lists n)) (All-permutation (λ r. (1 ≤ r.id) × (r.id ≤ field_limit)) (raws_at lists n) (by_id (raws_at lists n)) (by_id_permutation (raws_at lists n)) (λ k d there.
     let id = (good_at n (length (def_at classes n).fields) (raws_at lists n) (good.records n within) k d there).id in
     (id.low, id.high)))
 
@@ -123,9 +124,10 @@ class_made classes lists n schema good within =
       few_fields = members.fields;
       few_variables = (let e = length-map def.vars (λ (var : VarDef). var.values) in let h = members.vars in omega arith);
       ranges = All-map (IsValueClass (plan_of classes lists)) (λ (var : VarDef). var.values) def.vars (All-weaker (λ (var : VarDef). IsTrue (may_be_range classes var.values)) _ (λ var may. range_made classes lists var.values good.same may) def.vars ranges);
+      nullables = length-map def.vars (λ (var : VarDef). var.nullable) ∙ sym (length-map def.vars (λ (var : VarDef). var.values));
       increasing = by_id_increasing (raws_at lists n) (distinct_ids n (length def.fields) (raws_at lists n) (good.records n within));
       ids = λ k d there. ((limits k d there).0, fold_max-bounds 0 ids k d there);
-      greatest = (let h = fold_max-le 0 1000000000 ids (omega arith) (λ k d there. (limits k d there).1) in omega arith);
+      greatest = (let h = fold_max-le 0 field_limit ids (omega arith) (λ k d there. (limits k d there).1) in omega arith);
       records = records_made classes lists n good within;
     }
 

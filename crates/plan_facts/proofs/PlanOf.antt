@@ -1,4 +1,5 @@
 -- The plan of lists without a fault is sound.
+use Rattle.plan_facts.specs.Limits.{field_limit}
 use Rattle.std.proofs.Common.{◌≡◌, ◌==◌, ◌<◌, ◌≤◌, ◌∙◌, ℕ, ℤ, zero, suc, Bool, true, false, cond, ◌||◌, nat_lt, max, fold, Option, Some, None, is_some, IsTrue, List, [], ◌∷◌, ◌++◌, length, take, zip, get_or, eqb, pos, refl, sym, ap, arith, All}
 use Rattle.std.specs.List.{AllZip, IsDistinct}
 use Rattle.std.proofs.lemmas.Int.{ints}
@@ -54,7 +55,7 @@ values_fit live class id ranges values none =
 -- an id without a fault is in its limits, and that of no earlier record
 pub record GoodId (earlier : List Raw) (id : ℕ) : Type 0 where
   pub low : 1 ≤ id
-  pub high : id ≤ 1000000000
+  pub high : id ≤ field_limit
   pub fresh : is_some (record_with_id id earlier) ≡ false
 
 or_false : (a b : Bool) → (a || b) ≡ false → (a ≡ false) × (b ≡ false)
@@ -63,14 +64,14 @@ or_false false b h = (refl, h)
 
 id_fits : (earlier : List Raw) (id : ℕ) → is_bad_id earlier id ≡ false → GoodId earlier id
 id_fits earlier id h =
-    let fresh = or_false (nat_lt id 1 || nat_lt 1000000000 id) (is_some (record_with_id id earlier)) h in
-    let limits = or_false (nat_lt id 1) (nat_lt 1000000000 id) fresh.0 in
+    let fresh = or_false (nat_lt id 1 || nat_lt field_limit id) (is_some (record_with_id id earlier)) h in
+    let limits = or_false (nat_lt id 1) (nat_lt field_limit id) fresh.0 in
     let low = limits.0 in
     let high = limits.1 in
     record { low = grind (arith, nat_tests); high = grind (arith, nat_tests); fresh = fresh.1 }
 
 abbrev no_record : Raw
-no_record = record { id = 0; fields = []; values = [] }
+no_record = record { id = 0; fields = []; values = []; pinned = false }
 
 -- a record is live among those that it stands with
 live_there : (facts : List Raw) (k : ℕ) → k < length facts → is_some (record_with_id (get_or facts k no_record).id facts) ≡ true

@@ -114,6 +114,7 @@ class_emptied plan class id within view is =
       few_fields = is.few_fields;
       few_variables = is.few_variables;
       ranges = All-weaker (IsValueClass plan) _ (range_emptied plan class id within) view.ranges is.ranges;
+      nullables = is.nullables;
       increasing = subst AreIncreasing (sym ids) is.increasing;
       ids = subst (All (λ n. (1 ≤ n) × (n ≤ view.greatest))) (sym ids) is.ids;
       greatest = is.greatest;
@@ -136,6 +137,7 @@ class_without plan view id is =
       few_fields = is.few_fields;
       few_variables = is.few_variables;
       ranges = is.ranges;
+      nullables = is.nullables;
       increasing = subst AreIncreasing (sym ids) (AllPairs-filter (λ (one other : ℕ). one < other) (λ n. not (n == id)) (ids_in view.facts) is.increasing);
       ids = subst (All (λ n. (1 ≤ n) × (n ≤ view.greatest))) (sym ids) (All-filter (λ n. not (n == id)) (λ n. (1 ≤ n) × (n ≤ view.greatest)) (ids_in view.facts) is.ids);
       greatest = is.greatest;
@@ -184,7 +186,7 @@ pub record WasRemoved (plan : PlanView) (class id : ℕ) (new : ClassView) : Typ
   pub counted : All (λ view. All (λ raw. length raw.values ≡ length view.ranges) view.facts) (set plan.classes class new)
   pub is : plan_with (map (class_let_go class id) (set plan.classes class new)) plan.made ≡ without_fact plan class id
   pub sound : IsPlan (plan_with (map (class_let_go class id) (set plan.classes class new)) plan.made)
-  pub few : unplaced_of (plan_with (map (class_let_go class id) (set plan.classes class new)) 0) ≤ 640000
+  pub few : unplaced_of (plan_with (map (class_let_go class id) (set plan.classes class new)) 0) ≤ 3200000
 
 pub was_removed : (plan : PlanView) (class id : ℕ) (table new : ClassView) → class < length plan.classes → IsPlan plan → table ≡ get_or plan.classes class table → new ≡ without_record table id → WasRemoved plan class id new
 was_removed plan class id table new within sound read is =

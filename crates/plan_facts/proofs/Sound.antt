@@ -1,12 +1,13 @@
 -- What a plan's invariant gives, and that a change which keeps the ids keeps it.
-use Rattle.std.proofs.Common.{◌≡◌, ◌==◌, ◌<◌, ◌≤◌, ◌*◌, ◌∙◌, ℕ, zero, suc, true, false, cond, ◌||◌, Option, Some, None, is_some, is_none, IsTrue, List, [], ◌∷◌, length, set, get_or, eqb, refl, sym, ap, subst, arith, All, sum_by, count_by}
+use Rattle.plan_facts.specs.Limits.{fact_limit}
+use Rattle.std.proofs.Common.{◌≡◌, ◌==◌, ◌<◌, ◌≤◌, ◌+◌, ◌*◌, ◌∙◌, ℕ, zero, suc, true, false, cond, ◌||◌, Bool, Option, Some, None, is_some, IsTrue, zip, take, List, [], ◌∷◌, ◌++◌, length, set, get_or, eqb, refl, sym, ap, subst, arith, All, sum_by, count_by}
 use Rattle.std.specs.List.{AllZip, list_any}
-use Rattle.std.proofs.lemmas.List.{length-map, get_or_past}
+use Rattle.std.proofs.lemmas.List.{length-map, get_or_past, take_more}
 use Rattle.std.proofs.lemmas.List.Elements.{All-from_get_or, All-get_or, All-weaker}
-use Rattle.std.proofs.lemmas.Slice.Zip.{AllZip-long}
-use Rattle.std.proofs.lemmas.List.Sums.{sum_by-cons, sum_by-le, count_by-le-length, get_or-le-sum_by}
+use Rattle.std.proofs.lemmas.Slice.Zip.{AllZip-long, length-zip, get_or-zip}
+use Rattle.std.proofs.lemmas.List.Sums.{sum_by-cons, sum_by_push, sum_by-le, count_by-le-length, get_or-le-sum_by}
 use Rattle.plan_facts.specs.declared.record.Raw.{Raw}
-use Rattle.plan_facts.specs.Plan.{PlanView, ClassView, no_class, class_of, record_with_id, is_live, ids_in, ids_of, nulls_in, unplaced_of, is_value_of, AreIncreasing, IsPlan, IsClassOf, IsValueClass, IsRecordOf}
+use Rattle.plan_facts.specs.Plan.{PlanView, ClassView, no_class, class_of, record_with_id, is_live, ids_in, ids_of, is_missing, missing_in, nulls_in, unplaced_of, is_value_of, AreIncreasing, IsPlan, IsClassOf, IsValueClass, IsRecordOf}
 use Rattle.plan_facts.proofs.Places.{found_holds}
 
 -- a class of the plan is as the plan says
@@ -18,30 +19,56 @@ pub class_past : (plan : PlanView) (class : ℕ) → length plan.classes ≤ cla
 class_past plan class past = get_or_past plan.classes class no_class past
 
 -- no class has more records than were made
-pub few_facts : (plan : PlanView) (class : ℕ) → IsPlan plan → class < length plan.classes → length (class_of plan class).facts ≤ 20000
+pub few_facts : (plan : PlanView) (class : ℕ) → IsPlan plan → class < length plan.classes → length (class_of plan class).facts ≤ fact_limit
 few_facts plan class sound within =
     let part = get_or-le-sum_by (λ (view : ClassView). length view.facts) plan.classes class no_class within in
     let live = sound.live in
     let made = sound.made in
     omega arith
 
-few_nulls : (plan : PlanView) (view : ClassView) → IsClassOf plan view → nulls_in view.facts ≤ length view.facts * 2
+-- no more values are missing than a class has variables
+pub missing_in-le : (nullables : List Bool) (values : List (Option ℕ)) → missing_in nullables values ≤ length nullables
+missing_in-le nullables values =
+    let bound = count_by-le-length is_missing (zip nullables values) in
+    let long = length-zip nullables values in
+    omega arith
+
+-- 1 where the value of a variable that is nullable or not is missing, else 0
+abbrev pub missing : Bool × Option ℕ → ℕ
+missing pair = cond (is_missing pair) 1 0
+
+pub missing_le : (pair : Bool × Option ℕ) → missing pair ≤ 1
+missing_le pair = elim (is_missing pair) as (λ b. cond b 1 0 ≤ 1) [ true ↦ omega arith | false ↦ omega arith ]
+
+-- one more value
+pub missing_more : (nullables : List Bool) (values : List (Option ℕ)) (var : ℕ) → var < length nullables → var < length values → count_by is_missing (take (var + 1) (zip nullables values)) ≡ count_by is_missing (take var (zip nullables values)) + missing (get_or nullables var false, get_or values var None)
+missing_more nullables values var in_nullables in_values =
+    let long = length-zip nullables values in
+    let pair = get_or-zip nullables values var (false, None) in_nullables in_values in
+    let pairs = zip nullables values in
+    let next = get_or pairs var (false, None) in
+    let more : count_by is_missing (take var pairs ++ next ∷ []) ≡ count_by is_missing (take var pairs) + missing next = sum_by_push missing (take var pairs) next in
+    let now : count_by is_missing (take var pairs ++ next ∷ []) ≡ count_by is_missing (take (var + 1) pairs) = sym (ap (count_by is_missing) (take_more pairs var (false, None) (omega arith))) in
+    let e : missing next ≡ missing (get_or nullables var false, get_or values var None) = ap missing pair in
+    omega arith
+
+few_nulls : (plan : PlanView) (view : ClassView) → IsClassOf plan view → nulls_in view.nullables view.facts ≤ length view.facts * 2
 few_nulls plan view is =
-    sum_by-le (λ (raw : Raw). count_by is_none raw.values) 2 view.facts
-    (All-weaker (IsRecordOf plan view) (λ raw. count_by is_none raw.values ≤ 2) (λ raw fits.
-    let bound = count_by-le-length is_none raw.values in
-    let same = AllZip-long _ _ _ fits.values in
+    sum_by-le (λ (raw : Raw). missing_in view.nullables raw.values) 2 view.facts
+    (All-weaker (IsRecordOf plan view) (λ raw. missing_in view.nullables raw.values ≤ 2) (λ raw fits.
+    let bound = missing_in-le view.nullables raw.values in
+    let same = is.nullables in
     let few = is.few_variables in
     omega arith) view.facts is.records)
 
 -- few enough variables are null for their count to fit
-pub few_unplaced : (plan : PlanView) → IsPlan plan → unplaced_of plan ≤ 640000
+pub few_unplaced : (plan : PlanView) → IsPlan plan → unplaced_of plan ≤ 3200000
 few_unplaced plan sound =
-    let most : All (λ (view : ClassView). nulls_in view.facts ≤ 40000) plan.classes = All-from_get_or (λ (view : ClassView). nulls_in view.facts ≤ 40000) plan.classes no_class (λ class within.
+    let most : All (λ (view : ClassView). nulls_in view.nullables view.facts ≤ 200000) plan.classes = All-from_get_or (λ (view : ClassView). nulls_in view.nullables view.facts ≤ 200000) plan.classes no_class (λ class within.
     let nulls = few_nulls plan (class_of plan class) (class_at plan class sound within) in
     let facts = few_facts plan class sound within in
     omega arith) in
-    let all = sum_by-le (λ (view : ClassView). nulls_in view.facts) 40000 plan.classes most in
+    let all = sum_by-le (λ (view : ClassView). nulls_in view.nullables view.facts) 200000 plan.classes most in
     let few = sound.few_classes in
     omega arith
 
@@ -56,6 +83,7 @@ pub record KeepsIds (old new : PlanView) : Type 0 where
   pub count : length new.classes ≡ length old.classes
   pub fields : (class : ℕ) → (class_of new class).fields ≡ (class_of old class).fields
   pub ranges : (class : ℕ) → (class_of new class).ranges ≡ (class_of old class).ranges
+  pub nullables : (class : ℕ) → (class_of new class).nullables ≡ (class_of old class).nullables
   pub greatest : (class : ℕ) → (class_of new class).greatest ≡ (class_of old class).greatest
   pub ids : (class : ℕ) → ids_of new class ≡ ids_of old class
 
@@ -110,6 +138,7 @@ kept_class old new keeps class is fit =
       few_fields = (let e = keeps.fields class in let h = is.few_fields in omega arith);
       few_variables = (let e = ap (λ (ranges : List ℕ). length ranges) (keeps.ranges class) in let h = is.few_variables in omega arith);
       ranges = subst (λ (ranges : List ℕ). All (IsValueClass new) ranges) (sym (keeps.ranges class)) (All-weaker (IsValueClass old) (IsValueClass new) (kept_range old new keeps) _ is.ranges);
+      nullables = ap (λ (nullables : List Bool). length nullables) (keeps.nullables class) ∙ is.nullables ∙ sym (ap (λ (ranges : List ℕ). length ranges) (keeps.ranges class));
       increasing = subst (λ (ids : List ℕ). AreIncreasing ids) (sym (keeps.ids class)) is.increasing;
       ids = subst (λ (ids : List ℕ). All (λ id. (1 ≤ id) × (id ≤ (class_of new class).greatest)) ids) (sym (keeps.ids class)) (subst (λ (most : ℕ). All (λ id. (1 ≤ id) × (id ≤ most)) (ids_of old class)) (sym (keeps.greatest class)) is.ids);
       greatest = (let e = keeps.greatest class in let m = keeps.made in let h = is.greatest in omega arith);

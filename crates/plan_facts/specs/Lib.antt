@@ -1,3 +1,6 @@
+pub mod Limits
+pub mod Refusal
+pub mod Append
 pub mod First
 pub mod Names
 pub mod Schema
@@ -5,3 +8,4 @@ pub mod Plan
 pub mod PlanChanges
 pub mod PlanFaults
 pub mod Listed
+pub mod Lent

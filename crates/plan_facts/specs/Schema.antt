@@ -1,9 +1,9 @@
 -- What a schema is refused for.
-use Rattle.std.specs.Prelude.{ℕ, ◌≤◌, Bool, false, ◌&&◌, ◌||◌, not, nat_lt, nat_le, List, [], ◌∷◌, ◌++◌, Option, Some, None, length, map, slice_get, codes, All, IsTrue, if◌then◌else◌}
+use Rattle.std.specs.Prelude.{ℕ, ◌≤◌, Bool, false, ◌&&◌, ◌||◌, not, nat_lt, nat_le, List, [], ◌∷◌, ◌++◌, Option, length, map, slice_get, codes, All, IsTrue}
 use Rattle.std.specs.Option.{option_or, option_map_or}
 use Rattle.std.specs.Str.{bytes_eq}
 use Rattle.std.specs.List.{list_all, list_any}
-use Rattle.plan_facts.specs.First.{first_fault}
+use Rattle.plan_facts.specs.First.{first_fault, fault_where, fault_unless}
 use Rattle.plan_facts.specs.declared.record.VarDef.{VarDef}
 use Rattle.plan_facts.specs.declared.record.ClassDef.{ClassDef}
 use Rattle.plan_facts.specs.declared.schema.SchemaFault.{SchemaFault}
@@ -25,9 +25,9 @@ begins_with_letter (first ∷ _) = is_letter first
 abbrev pub is_name : List ℕ → Bool
 is_name text = begins_with_letter text && nat_le (length text) 32 && list_all is_name_byte text
 
--- a name that a class, field or variable may have: any but `id`, which every record has
+-- a name that a class, field or variable may have: any but `id` and `pinned`, which say of a record itself
 abbrev pub is_free_name : List ℕ → Bool
-is_free_name text = is_name text && not (bytes_eq text (codes "id"))
+is_free_name text = is_name text && not (bytes_eq text (codes "id") || bytes_eq text (codes "pinned"))
 
 -- the names of the fields and variables of a class
 abbrev pub member_names : ClassDef → List (List ℕ)
@@ -51,19 +51,20 @@ may_be_range classes n = option_map_or (λ c. nat_lt (length c.vars) 1) (slice_g
 
 -- a class that stands after these has more than 16 fields
 abbrev pub field_count_fault : List ClassDef → ClassDef → Option SchemaFault
-field_count_fault earlier class = if nat_lt 16 (length class.fields) then Some (TooManyFields (length earlier)) else None
+field_count_fault earlier class = fault_where (nat_lt 16 (length class.fields)) (TooManyFields (length earlier))
 
 -- a class that stands after these has more than 2 variables
 abbrev pub var_count_fault : List ClassDef → ClassDef → Option SchemaFault
-var_count_fault earlier class = if nat_lt 2 (length class.vars) then Some (TooManyVars (length earlier)) else None
+var_count_fault earlier class = fault_where (nat_lt 2 (length class.vars)) (TooManyVars (length earlier))
 
 -- a class that stands after these has a bad name
 abbrev pub name_fault : List ClassDef → ClassDef → Option SchemaFault
-name_fault earlier class = if has_bad_name earlier class then Some (BadName (length earlier)) else None
+name_fault earlier class = fault_where (has_bad_name earlier class) (BadName (length earlier))
 
 -- a variable that stands after these in the class with this number has a range that is no class of values
 abbrev pub var_range_fault : List ClassDef → ℕ → List VarDef → VarDef → Option SchemaFault
-var_range_fault classes class earlier var = if may_be_range classes var.values then None else Some (BadRange class (length earlier))
+var_range_fault classes class earlier var =
+    fault_unless (may_be_range classes var.values) (BadRange class (length earlier))
 
 -- the first variable of a class that stands after these whose range is no class of values
 abbrev pub range_fault : List ClassDef → List ClassDef → ClassDef → Option SchemaFault
@@ -72,7 +73,7 @@ range_fault classes earlier class = first_fault (var_range_fault classes (length
 -- what a schema of these classes is refused for, the first that applies
 abbrev pub schema_fault : List ClassDef → Option SchemaFault
 schema_fault classes =
-    option_or (if nat_lt 16 (length classes) then Some TooManyClasses else None)
+    option_or (fault_where (nat_lt 16 (length classes)) TooManyClasses)
     (option_or (first_fault field_count_fault [] classes)
     (option_or (first_fault var_count_fault [] classes)
     (option_or (first_fault name_fault [] classes)

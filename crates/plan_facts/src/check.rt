@@ -9,7 +9,7 @@ use crate::fault::PlanFault;
 pub const FIELD_LIMIT: i64 = 1_000_000_000;
 
 /// How many facts may ever be made.
-pub const FACT_LIMIT: u32 = 20_000;
+pub const FACT_LIMIT: u32 = 100_000;
 
 /// Knows which facts are live.
 pub trait LiveFacts {

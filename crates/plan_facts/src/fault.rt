@@ -9,7 +9,7 @@ pub enum PlanFault {
     Memory,
     /// There isn't one list of records for each class.
     ClassCount,
-    /// More than 20,000 facts would ever have been made.
+    /// More than 100,000 facts would ever have been made.
     TooManyFacts,
     /// The id is 0, above 10^9, or that of an earlier record of the class.
     BadId { class: u8, id: u32 },

@@ -14,6 +14,7 @@ mod schema;
 mod table;
 mod text;
 
+pub use check::{FACT_LIMIT, FIELD_LIMIT};
 pub use fault::PlanFault;
 pub use list::List;
 pub use memory::Memory;

@@ -17,8 +17,9 @@ impl<T> Model for List<T> {
 }
 
 impl<T> List<T> {
-    ghost use Rattle.std.specs.Prelude.{take, drop, ◌≡◌, ◌++◌, ◌∷◌, [], List, length, slice_get, IfNone, OnOk, OnErr, option_copied, option_to_list};
+    ghost use Rattle.std.specs.Prelude.{◌≡◌, ◌==◌, ◌++◌, ◌∷◌, [], List, length, slice_get, IfNone, OnOk, OnErr, option_copied, option_to_list};
     ghost use Rattle.std.specs.Borrow.{Lends, Array, sem};
+    ghost use Rattle.plan_facts.specs.Lent.{written_back};
     ghost use Rattle.plan_facts.specs.contracts.list.List.{the_row};
 
     /// The empty list.
@@ -37,6 +38,13 @@ impl<T> List<T> {
         self.items.len()
     }
 
+    /// Whether there is no item.
+    pub fn is_empty(&self) -> bool
+        ensures { result ≡ (length self.now == 0) }
+    {
+        self.items.is_empty()
+    }
+
     /// The item at place `n`, from 0; none where the list ends before it.
     pub fn get(&self, n: usize) -> Option<&T>
         ensures { option_copied result ≡ slice_get self.now n }
@@ -53,7 +61,7 @@ impl<T> List<T> {
 
     /// All items, to be changed in their places.
     pub fn as_mut_slice(&mut self) -> &mut [T]
-        ensures* writes_back { sem 𝓛 (Lends (the_row T.row) (Array T.row 0) self.entry result (λ w. take (length self.entry.now) (w ++ drop (length w) self.entry.now))) }
+        ensures* back { sem 𝓛 (Lends (the_row T.row) (Array T.row 0) self.entry result (written_back self.entry.now)) }
         ensures value { result.now ≡ self.old }
     {
         self.items.as_mut_slice()
@@ -88,7 +96,7 @@ impl<T> List<T> {
 }
 
 impl<T: Copy> List<T> {
-    ghost use Rattle.std.specs.Prelude.{◌≡◌, IfOk};
+    ghost use Rattle.std.specs.Prelude.{◌≡◌, IfOk, OnOk};
 
     /// A list of these items.
     pub fn from_slice(alloc: Global, items: &[T]) -> Result<List<T>, Memory>
@@ -97,6 +105,16 @@ impl<T: Copy> List<T> {
         Ok(List {
             items: Vec::from_slice(alloc, items)?,
         })
+    }
+
+    /// Puts these items in place of those that the list has, in the memory that it has where they fit. At want of memory
+    /// what it holds isn't told.
+    pub fn refill(&mut self, items: &[T]) -> Result<(), Memory>
+        ensures { OnOk result (self.new ≡ items.now) }
+    {
+        self.items.clear();
+        self.items.extend_from_slice(items)?;
+        Ok(())
     }
 
     /// A list with the items of this one.

@@ -2,8 +2,10 @@ ghost use Rattle.std.specs.Prelude.{◌≡◌, ◌≤◌, ◌<◌, [], None, Som
 ghost use Rattle.std.specs.List.{IsDistinct};
 ghost use Rattle.plan_facts.specs.Plan.{ids_in, plan_with, unplaced_of, IsPlan};
 ghost use Rattle.plan_facts.specs.First.{first_fault};
-ghost use Rattle.plan_facts.specs.Listed.{is_listed, HasIds, HaveIds};
-ghost use Rattle.plan_facts.specs.PlanFaults.{record_fault, class_fault, record_values_fault, class_values_fault, ranges_of, class_with, plan_of, plan_fault, IsRefusal};
+ghost use Rattle.plan_facts.specs.Listed.{IsFewOf, is_listed, HasIds, HaveIds};
+ghost use Rattle.plan_facts.specs.Limits.{fact_limit};
+ghost use Rattle.plan_facts.specs.Refusal.{IsRefusal};
+ghost use Rattle.plan_facts.specs.PlanFaults.{record_fault, class_fault, record_values_fault, class_values_fault, classes_fault, all_values_fault, ranges_of, nullables_of, class_with, plan_of, plan_fault};
 ghost use Rattle.std.specs.Result.{result_err};
 
 use crate::check::{FACT_LIMIT, LiveFacts, check_fields, check_values};
@@ -26,7 +28,7 @@ struct ListedIds {
 }
 
 impl LiveFacts for ListedIds {
-    ghost use Rattle.plan_facts.specs.Listed.{is_listed};
+    ghost use Rattle.plan_facts.specs.Listed.{IsFewOf, is_listed};
 
     ghost live = { λ ids class id. is_listed ids.classes.items class id };
 
@@ -48,7 +50,7 @@ fn listed_ids(
     requires { count ≤ 16 }
     ensures ids { IfOk result (HasIds raws.now) }
     ensures ok { OnOk result (first_fault (record_fault class count) [] raws.now ≡ None) }
-    ensures err { IfErr result (IsRefusal (first_fault (record_fault class count) [] raws.now)) }
+    ensures err { IfErr result (IsRefusal PlanFault.Memory (first_fault (record_fault class count) [] raws.now)) }
 {
     let mut ids = HashSet::new(alloc);
     for place in 0..raws.len() {
@@ -71,8 +73,8 @@ fn all_listed_ids(
 ) -> Result<ListedIds, PlanFault>
     requires { length lists.now ≡ length schema.now }
     ensures ids { IfOk result (λ ids. HaveIds lists.now ids.classes.items) }
-    ensures ok { OnOk result (first_fault class_fault [] (zip schema.now lists.now) ≡ None) }
-    ensures err { IfErr result (IsRefusal (first_fault class_fault [] (zip schema.now lists.now))) }
+    ensures ok { OnOk result (classes_fault schema.now lists.now ≡ None) }
+    ensures err { IfErr result (IsRefusal PlanFault.Memory (classes_fault schema.now lists.now)) }
 {
     let mut classes = Vec::new(alloc);
     for class in 0..schema.classes() {
@@ -114,6 +116,17 @@ fn ranges_of(alloc: Global, def: &ClassDef) -> Result<List<u8>, Memory>
     Ok(ranges)
 }
 
+/// Whether each variable of a class may stay null.
+fn nullables_of(alloc: Global, def: &ClassDef) -> Result<List<bool>, Memory>
+    ensures { IfOk result (λ nullables. nullables ≡ nullables_of def.now) }
+{
+    let mut nullables = List::new(alloc);
+    for var in def.vars.as_slice() {
+        nullables.push(var.nullable)?;
+    }
+    Ok(nullables)
+}
+
 /// The first fault of the values of all records.
 fn check_all_values<L: LiveFacts>(
     alloc: Global,
@@ -122,8 +135,8 @@ fn check_all_values<L: LiveFacts>(
     lists: &[List<Raw>],
 ) -> Result<(), PlanFault>
     requires { length lists.now ≡ length schema.now }
-    ensures ok { OnOk result (first_fault (class_values_fault (L.live facts.now)) [] (zip schema.now lists.now) ≡ None) }
-    ensures err { IfErr result (IsRefusal (first_fault (class_values_fault (L.live facts.now)) [] (zip schema.now lists.now))) }
+    ensures ok { OnOk result (all_values_fault (L.live facts.now) schema.now lists.now ≡ None) }
+    ensures err { IfErr result (IsRefusal PlanFault.Memory (all_values_fault (L.live facts.now) schema.now lists.now)) }
 {
     for class in 0..schema.classes() {
         let Some(def) = schema.class(class) else {
@@ -136,9 +149,9 @@ fn check_all_values<L: LiveFacts>(
     Ok(())
 }
 
-/// How many records there are; none where they are more than 20,000.
+/// How many records there are; none where they are more than 100,000.
 fn count_facts(lists: &[List<Raw>]) -> Option<u32>
-    ensures { MatchOption result (20000 < sum_by length lists.now) (λ count. (count ≡ sum_by length lists.now) × (count ≤ 20000)) }
+    ensures { MatchOption result (fact_limit < sum_by length lists.now) (IsFewOf lists.now) }
 {
     let mut count = 0;
     for raws in lists {
@@ -155,7 +168,7 @@ pub fn check_lists(alloc: Global, schema: &Schema, lists: &[List<Raw>]) -> Resul
     ensures made { IfOk result (λ made. made ≡ sum_by length lists.now) }
     ensures ok { OnOk result (plan_fault schema.now lists.now ≡ None) }
     ensures plan { OnOk result (IsPlan (plan_of schema.now lists.now)) }
-    ensures err { IfErr result (IsRefusal (plan_fault schema.now lists.now)) }
+    ensures err { IfErr result (IsRefusal PlanFault.Memory (plan_fault schema.now lists.now)) }
 {
     if lists.len() != schema.classes() as usize {
         return Err(PlanFault::ClassCount);
@@ -186,19 +199,20 @@ pub fn make_tables(
         };
         let ranges = ranges_of(alloc, def)?;
         let raws = std::mem::replace(&mut rest[class as usize], List::new(alloc));
-        tables.push(Table::of(alloc, def.fields.len(), ranges, raws)?)?;
+        let nullables = nullables_of(alloc, def)?;
+        tables.push(Table::of(alloc, def.fields.len(), ranges, nullables, raws)?)?;
     }
     Ok(tables)
 }
 
-/// How many variables of all records are null.
-pub fn count_all_nulls(tables: &[Table]) -> u32
+/// How many values of all records are missing.
+pub fn count_all_missing(tables: &[Table]) -> u32
     requires { unplaced_of (plan_with tables.now 0) < 2 ^ 32 }
     ensures { result ≡ unplaced_of (plan_with tables.now 0) }
 {
-    let mut nulls = 0;
+    let mut missing = 0;
     for table in tables {
-        nulls += table.null_count();
+        missing += table.missing_count();
     }
-    nulls as u32
+    missing as u32
 }

@@ -22,11 +22,11 @@ fn all_name_bytes(text: &[u8]) -> bool
         .all(|byte| matches!(*byte, b'a'..=b'z' | b'0'..=b'9' | b'_'))
 }
 
-/// Whether the text is a name that a class, field or variable may have: any but `id`.
+/// Whether the text is a name that a class, field or variable may have: any but `id` and `pinned`.
 fn is_free_name(text: &[u8]) -> bool
     ensures { result ≡ is_free_name text.now }
 {
-    is_name(text) && text != b"id".as_slice()
+    is_name(text) && !(text == b"id".as_slice() || text == b"pinned".as_slice())
 }
 
 /// The number of fields and variables of the class.

@@ -1,6 +1,7 @@
-ghost use Rattle.std.specs.Prelude.{◌≡◌, ◌<◌, IsTrue, is_none, if◌then◌else◌, IsSomeAnd, IfOk, OnOk, IfErr, OnErr, IfNone, ◌≤◌, None, All, MatchOption, List, length, map, zip, option_copied};
-ghost use Rattle.plan_facts.specs.Plan.{class_of, no_class, fact_of, is_live, ids_of, next_id_of, unplaced_of, record_of, resolved, held_value, range_of, is_value_of, IsPlan, IsClassOf, IsFieldNumber};
-ghost use Rattle.plan_facts.specs.PlanFaults.{plan_of, plan_fault, add_fault, IsRefusal};
+ghost use Rattle.std.specs.Prelude.{◌≡◌, ◌<◌, IsTrue, IsSomeAnd, IfOk, OnOk, IfErr, OnErr, IfNone, ◌≤◌, None, All, MatchOption, List, length, map, zip, option_copied};
+ghost use Rattle.plan_facts.specs.Plan.{class_of, no_class, fact_of, is_live, ids_of, next_id_of, unplaced_of, record_of, resolved, held_value, held_values, range_of, records_of, missing_in, is_pinned, is_value_of, IsPlan, IsClassAt, IsFieldNumber};
+ghost use Rattle.plan_facts.specs.PlanFaults.{plan_of, plan_fault, add_fault};
+ghost use Rattle.plan_facts.specs.Refusal.{IsRefusal};
 ghost use Rattle.plan_facts.specs.PlanChanges.{with_value, with_field, with_fact, without_fact, class_let_go};
 ghost use Rattle.std.specs.Result.{result_err};
 ghost use Rattle.std.specs.Bool.{OnTrue, OnFalse};
@@ -8,11 +9,11 @@ ghost use Rattle.std.specs.Bool.{OnTrue, OnFalse};
 use crate::check::{FACT_LIMIT, LiveFacts, check_fields, check_values};
 use crate::fault::PlanFault;
 use crate::list::List;
-use crate::listed::{check_lists, count_all_nulls, make_tables};
+use crate::listed::{check_lists, count_all_missing, make_tables};
 use crate::memory::Memory;
 use crate::record::{Raw, Rec, Value};
 use crate::schema::Schema;
-use crate::table::{Table, count_nulls};
+use crate::table::{Table, count_missing, one_if_missing};
 use std::alloc::Global;
 use std::marker::Model;
 
@@ -27,23 +28,13 @@ pub struct Plan {
 
 impl Model for Plan {
     ghost use Rattle.std.specs.Prelude.{◌≡◌};
-    ghost use Rattle.plan_facts.specs.Plan.{PlanView, plan_with, unplaced_of, IsPlan};
+    ghost use Rattle.plan_facts.specs.Plan.{PlanView, plan_with, IsCounted};
 
     ghost Value = { PlanView };
 
     ghost view = { λ plan. plan_with plan.tables.items plan.made };
 
-    ghost invariant = { λ plan. IsPlan (plan_with plan.tables.items plan.made) × (plan.unplaced ≡ unplaced_of (plan_with plan.tables.items plan.made)) };
-}
-
-/// 1 where the value is null, else 0.
-fn null_count(value: Option<u32>) -> u32
-    ensures { result ≡ (if is_none value then 1 else 0) }
-{
-    match value {
-        Some(_) => 0,
-        None => 1,
-    }
+    ghost invariant = { λ plan. IsCounted (plan_with plan.tables.items plan.made) plan.unplaced };
 }
 
 /// Makes each variable null that holds the fact of this class with this id.
@@ -72,11 +63,11 @@ impl Plan {
         ensures plan { IfOk result (λ plan. plan ≡ plan_of schema.now lists) }
         ensures ok { OnOk result (plan_fault schema.now lists ≡ None) }
         ensures sound { IfOk result IsPlan }
-        ensures err { IfErr result (IsRefusal (plan_fault schema.now lists)) }
+        ensures err { IfErr result (IsRefusal PlanFault.Memory (plan_fault schema.now lists)) }
     {
         let made = check_lists(alloc, schema, lists.as_slice())?;
         let tables = make_tables(alloc, schema, lists)?;
-        let unplaced = count_all_nulls(&tables);
+        let unplaced = count_all_missing(&tables);
         Ok(Plan {
             alloc,
             tables,
@@ -89,7 +80,7 @@ impl Plan {
     fn table(&self, class: u8) -> Option<&Table>
         ensures sound { IsPlan self.now }
         ensures missing { IfNone result (length self.now.classes ≤ class) }
-        ensures table { MatchOption result (class_of self.now class ≡ no_class) (λ table. (table.now ≡ class_of self.now class) × IsClassOf self.now table.now) }
+        ensures table { MatchOption result (class_of self.now class ≡ no_class) (λ t. IsClassAt self.now class t.now) }
     {
         self.tables.get(class as usize)
     }
@@ -124,6 +115,17 @@ impl Plan {
         }
     }
 
+    /// Whether each variable of a class may stay null; none where there is no such class.
+    pub fn nullables(&self, class: u8) -> &[bool]
+        ensures nullables { result.now ≡ (class_of self.now class).nullables }
+        ensures sound { IsPlan self.now }
+    {
+        match self.table(class) {
+            Some(table) => table.nullables(),
+            None => &[],
+        }
+    }
+
     /// The ids of the live facts of a class, increasing; none where there is no such class.
     pub fn ids(&self, class: u8) -> &[u32]
         ensures ids { result.now ≡ ids_of self.now class }
@@ -146,7 +148,18 @@ impl Plan {
         }
     }
 
-    /// How many facts were ever made, at most 20,000.
+    /// Whether there is a live fact of the class with this id that is pinned.
+    pub fn pinned(&self, class: u8, id: u32) -> bool
+        ensures pinned { result ≡ is_pinned self.now class id }
+        ensures sound { IsPlan self.now }
+    {
+        match self.raw(class, id) {
+            Some(raw) => raw.pinned,
+            None => false,
+        }
+    }
+
+    /// How many facts were ever made, at most 100,000.
     pub fn made(&self) -> u32
         ensures made { result ≡ self.now.made }
         ensures sound { IsPlan self.now }
@@ -165,12 +178,22 @@ impl Plan {
         }
     }
 
-    /// How many variables of all entities are null.
+    /// How many null variables that aren't nullable all entities have, pinned ones too.
     pub fn unplaced(&self) -> u32
         ensures unplaced { result ≡ unplaced_of self.now }
         ensures sound { IsPlan self.now }
     {
         self.unplaced
+    }
+
+    /// How many of these values of a fact of a class are missing.
+    fn missing(&self, class: u8, values: &[Option<u32>]) -> usize
+        ensures { result ≡ missing_in (class_of self.now class).nullables values.now }
+    {
+        match self.table(class) {
+            Some(table) => count_missing(table.nullables(), values),
+            None => 0,
+        }
     }
 
     /// What a variable holds, with the fields of the fact.
@@ -192,7 +215,7 @@ impl Plan {
     /// What the variables with these value classes hold.
     fn planned(&self, ranges: &[u8], values: &[Option<u32>]) -> Result<List<Option<Value>>, Memory>
         requires { length values.now ≡ length ranges.now }
-        ensures { IfOk result (λ planned. planned ≡ map (λ pair. held_value self.now pair.0 pair.1) (zip ranges.now values.now)) }
+        ensures { IfOk result (λ planned. planned ≡ held_values self.now ranges.now values.now) }
     {
         let mut planned = List::new(self.alloc);
         for var in 0..ranges.len() {
@@ -231,6 +254,31 @@ impl Plan {
         }
     }
 
+    /// The resolved records of a class, in the order of their ids; none where there is no such class.
+    #[tactic(auto, unfolding(crate::specs::Plan::records_of))]
+    pub fn records(&self, class: u8) -> Result<List<Rec>, Memory>
+        ensures records { IfOk result (λ records. records ≡ records_of self.now class) }
+        ensures sound { IsPlan self.now }
+    {
+        match self.table(class) {
+            Some(table) => self.resolved_all(class, table.ranges(), table.facts()),
+            None => Ok(List::new(self.alloc)),
+        }
+    }
+
+    /// Records of a class, each with the whole value of each of its variables.
+    fn resolved_all(&self, class: u8, ranges: &[u8], facts: &[Raw]) -> Result<List<Rec>, Memory>
+        requires ranges { ranges.now ≡ (class_of self.now class).ranges }
+        requires values { All (λ raw. length raw.values ≡ length ranges.now) facts.now }
+        ensures { IfOk result (λ records. records ≡ map (resolved self.now class) facts.now) }
+    {
+        let mut records = List::new(self.alloc);
+        for raw in facts {
+            records.push(self.resolved(class, ranges, raw)?)?;
+        }
+        Ok(records)
+    }
+
     /// Sets one variable of an entity: to null, or to a live fact of its value class.
     pub fn set(&mut self, class: u8, id: u32, var: u8, value: Option<u32>)
         requires there { IsSomeAnd (fact_of self.old class id) (λ raw. var < length raw.values) }
@@ -239,8 +287,10 @@ impl Plan {
         ensures sound { IsPlan self.new }
     {
         let table = &mut self.tables[class as usize];
+        let nullable = table.is_nullable(var as usize);
         let held = table.set(id, var as usize, value);
-        self.unplaced = self.unplaced + null_count(value) - null_count(held);
+        self.unplaced = self.unplaced + one_if_missing(nullable, value)
+            - one_if_missing(nullable, held);
     }
 
     /// Sets one field of a fact to a number from -10^9 to 10^9.
@@ -273,8 +323,9 @@ impl Plan {
         Ok(())
     }
 
-    /// Adds a fact to a class, which must be there, and gives its id, the class's next one; or the first fault of
-    /// these: too many facts, a wrong number of fields, a field out of range, a bad value. The plan stays as it was then.
+    /// Adds a fact, not pinned, to a class, which must be there, and gives its id, the class's next one; or the first
+    /// fault of these: too many facts, a wrong number of fields, a field out of range, a bad value. The plan stays as it
+    /// was then.
     pub fn add(
         &mut self,
         class: u8,
@@ -285,17 +336,23 @@ impl Plan {
         ensures id { IfOk result (λ id. id ≡ next_id_of self.old class) }
         ensures ok { OnOk result (add_fault self.old class fields values ≡ None) }
         ensures now { OnOk result (self.new ≡ with_fact self.old class fields values) }
-        ensures err { IfErr result (IsRefusal (add_fault self.old class fields values)) }
+        ensures err { IfErr result (IsRefusal PlanFault.Memory (add_fault self.old class fields values)) }
         ensures unchanged { OnErr result (self.new ≡ self.old) }
         ensures sound { IsPlan self.new }
     {
         self.check_new(class, fields.as_slice(), values.as_slice())?;
         let id = self.next_id(class);
-        let nulls = count_nulls(values.as_slice()) as u32;
+        let missing = self.missing(class, values.as_slice()) as u32;
+        let pinned = false;
         let table = &mut self.tables[class as usize];
-        table.add(Raw { id, fields, values })?;
+        table.add(Raw {
+            id,
+            fields,
+            values,
+            pinned,
+        })?;
         self.made += 1;
-        self.unplaced += nulls;
+        self.unplaced += missing;
         Ok(id)
     }
 
@@ -312,7 +369,7 @@ impl Plan {
         let table = &mut self.tables[class as usize];
         table.remove(id);
         let_go_in(&mut self.tables, class, id);
-        self.unplaced = count_all_nulls(&self.tables);
+        self.unplaced = count_all_missing(&self.tables);
         true
     }
 
@@ -334,5 +391,6 @@ impl Plan {
     }
 }
 
+mod refill;
 #[cfg(test)]
 mod tests;

@@ -19,11 +19,13 @@ pub struct FieldDef {
     pub kind: Kind,
 }
 
-/// A planning variable of a class; its range is the facts of the class with number `values`.
+/// A planning variable of a class; its range is the facts of the class with number `values`. A nullable one may stay
+/// null and then counts as initialised.
 #[derive(Drop)]
 pub struct VarDef {
     pub name: Text,
     pub values: u8,
+    pub nullable: bool,
 }
 
 /// A class of facts; one with planning variables is an entity class.
@@ -50,12 +52,13 @@ pub struct Rec {
     pub planned: List<Option<Value>>,
 }
 
-/// A record as it is kept: for each variable null or the id of its value.
+/// A record as it is kept: for each variable null or the id of its value. The solver leaves a pinned one as it is.
 #[derive(Drop)]
 pub struct Raw {
     pub id: u32,
     pub fields: List<i64>,
     pub values: List<Option<u32>>,
+    pub pinned: bool,
 }
 
 /// A copy of a list of values.
@@ -163,6 +166,7 @@ impl Raw {
             id: self.id,
             fields: self.fields.copy(alloc)?,
             values: self.values.copy(alloc)?,
+            pinned: self.pinned,
         })
     }
 }

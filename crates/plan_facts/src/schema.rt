@@ -20,7 +20,8 @@ pub enum SchemaFault {
     /// The class has more than 2 planning variables.
     TooManyVars { class: u8 },
     /// A name of the class, or of one of its fields and variables, isn't 1 to 32 bytes of a-z, 0-9 and `_` with a
-    /// letter first, or is `id`; or the class has the name of an earlier one, or two of its members have one name.
+    /// letter first, or is `id` or `pinned`; or the class has the name of an earlier one, or two of its members have one
+    /// name.
     BadName { class: u8 },
     /// The variable's range is no class, or a class with planning variables.
     BadRange { class: u8, var: u8 },

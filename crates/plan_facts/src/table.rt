@@ -1,8 +1,8 @@
-ghost use Rattle.std.specs.Prelude.{◌≡◌, ◌≢◌, ◌<◌, ◌+◌, ℕ, List, ◌∷◌, [], ◌++◌, length, None, Some, MatchOption, IsSomeAnd, All, slice_index, slice_index_or, slice_set, option_copied, ◌^◌, max, fold, count_by, is_none, nat_eq, map, is_some, IsTrue, IfOk, OnOk, OnErr};
+ghost use Rattle.std.specs.Prelude.{◌≡◌, ◌≢◌, if◌then◌else◌, Bool, false, zip, ◌<◌, ◌+◌, ℕ, List, ◌∷◌, [], ◌++◌, length, None, Some, MatchOption, IsSomeAnd, All, slice_index, slice_index_or, slice_set, option_copied, ◌^◌, max, fold, nat_eq, map, is_some, IsTrue, IfOk, OnOk, OnErr};
 ghost use Rattle.std.specs.List.{IsDistinct};
-ghost use Rattle.plan_facts.specs.Plan.{record_with_id, ids_in, nulls_in, AreIncreasing, IsPlaceOf};
+ghost use Rattle.plan_facts.specs.Plan.{record_with_id, ids_in, is_missing, missing_in, nulls_in, AreIncreasing, IsPlaceIn, IsPlaceOf};
 ghost use Rattle.plan_facts.specs.PlanFaults.{table_of};
-ghost use Rattle.plan_facts.specs.PlanChanges.{with_record, without_record, let_go, record_let_go, class_let_go};
+ghost use Rattle.plan_facts.specs.PlanChanges.{HasValue, raw_with_value, raw_with_field, with_next, with_record, without_record, let_go, record_let_go, class_let_go};
 
 use crate::list::List;
 use crate::memory::Memory;
@@ -15,6 +15,7 @@ use std::marker::Model;
 pub struct Table {
     fields: usize,
     ranges: List<u8>,
+    nullables: List<bool>,
     ids: Vec<u32>,
     facts: Vec<Raw>,
     greatest: u32,
@@ -22,11 +23,11 @@ pub struct Table {
 
 impl Model for Table {
     ghost use Rattle.std.specs.Prelude.{◌≡◌};
-    ghost use Rattle.plan_facts.specs.Plan.{ClassView, ids_in};
+    ghost use Rattle.plan_facts.specs.Plan.{ClassView, view_of, ids_in};
 
     ghost Value = { ClassView };
 
-    ghost view = { λ table. record { fields = table.fields; ranges = table.ranges; facts = table.facts.items; greatest = table.greatest } };
+    ghost view = { λ table. view_of table.fields table.ranges table.nullables table.facts.items table.greatest };
 
     ghost invariant = { λ table. table.ids.items ≡ ids_in table.facts.items };
 }
@@ -35,7 +36,7 @@ impl Model for Table {
 /// once.
 fn place_of(ids: &[u32], id: u32) -> Option<usize>
     requires { AreIncreasing ids.now }
-    ensures { MatchOption result (All (λ other. other ≢ id) ids.now) (λ place. (place < length ids.now) × (slice_index ids.now place ≡ id)) }
+    ensures { MatchOption result (All (λ other. other ≢ id) ids.now) (IsPlaceIn ids.now id) }
 {
     let guess = (id as usize).saturating_sub(1);
     if guess < ids.len() && ids[guess] == id {
@@ -58,18 +59,29 @@ fn greatest_of(ids: &[u32]) -> u32
     greatest
 }
 
-/// How many values are null.
-pub fn count_nulls(values: &[Option<u32>]) -> usize
-    ensures { result ≡ count_by is_none values.now }
+/// 1 where the value of a variable that is nullable or not is missing, else 0.
+pub fn one_if_missing(nullable: bool, value: Option<u32>) -> u32
+    ensures { result ≡ (if is_missing (nullable, value) then 1 else 0) }
 {
-    values.iter().filter(|value| value.is_none()).count()
+    if nullable || value.is_some() { 0 } else { 1 }
+}
+
+/// How many values are missing, where these variables may stay null.
+pub fn count_missing(nullables: &[bool], values: &[Option<u32>]) -> usize
+    ensures { result ≡ missing_in nullables.now values.now }
+{
+    let mut missing = 0;
+    for var in 0..nullables.len().min(values.len()) {
+        missing += one_if_missing(nullables[var], values[var]) as usize;
+    }
+    missing
 }
 
 /// Sets one variable of a record, and gives what it held.
 fn set_value(raw: &mut Raw, var: usize, value: Option<u32>) -> Option<u32>
     requires { var < length raw.old.values }
-    ensures held { result ≡ slice_index_or raw.old.values var result }
-    ensures now { raw.new ≡ record raw.old { values = slice_set raw.old.values var value } }
+    ensures held { HasValue var result raw.old }
+    ensures now { raw.new ≡ raw_with_value var value raw.old }
 {
     std::mem::replace(&mut raw.values.as_mut_slice()[var], value)
 }
@@ -77,7 +89,7 @@ fn set_value(raw: &mut Raw, var: usize, value: Option<u32>) -> Option<u32>
 /// Sets one field of a record.
 fn set_number(raw: &mut Raw, field: usize, number: i64)
     requires { field < length raw.old.fields }
-    ensures { raw.new ≡ record raw.old { fields = slice_set raw.old.fields field number } }
+    ensures { raw.new ≡ raw_with_field field number raw.old }
 {
     raw.fields.as_mut_slice()[field] = number;
 }
@@ -120,10 +132,11 @@ impl Table {
         alloc: Global,
         fields: usize,
         ranges: List<u8>,
+        nullables: List<bool>,
         raws: List<Raw>,
     ) -> Result<Table, Memory>
         requires { IsDistinct nat_eq (ids_in raws) }
-        ensures { IfOk result (λ table. table ≡ table_of fields ranges raws) }
+        ensures { IfOk result (λ table. table ≡ table_of fields ranges nullables raws) }
     {
         let mut facts = raws.into_items();
         facts.sort_unstable_by_key(|raw| raw.id);
@@ -132,22 +145,24 @@ impl Table {
         Ok(Table {
             fields,
             ranges,
+            nullables,
             ids,
             facts,
             greatest,
         })
     }
 
-    /// How many variables of the records are null.
-    pub fn null_count(&self) -> usize
-        requires { nulls_in self.now.facts < 2 ^ 32 }
-        ensures { result ≡ nulls_in self.now.facts }
+    /// How many values of the records are missing.
+    pub fn missing_count(&self) -> usize
+        requires { nulls_in self.now.nullables self.now.facts < 2 ^ 32 }
+        ensures { result ≡ nulls_in self.now.nullables self.now.facts }
     {
-        let mut nulls = 0;
+        let nullables = self.nullables.as_slice();
+        let mut missing = 0;
         for raw in &self.facts {
-            nulls += count_nulls(raw.values.as_slice());
+            missing += count_missing(nullables, raw.values.as_slice());
         }
-        nulls
+        missing
     }
 
     /// How many fields a record of the class has.
@@ -162,6 +177,23 @@ impl Table {
         ensures { result.now ≡ self.now.ranges }
     {
         self.ranges.as_slice()
+    }
+
+    /// Whether each variable of the class may stay null.
+    pub fn nullables(&self) -> &[bool]
+        ensures { result.now ≡ self.now.nullables }
+    {
+        self.nullables.as_slice()
+    }
+
+    /// Whether this variable of the class may stay null.
+    pub fn is_nullable(&self, var: usize) -> bool
+        ensures { result ≡ slice_index_or self.now.nullables var false }
+    {
+        match self.nullables.get(var) {
+            Some(nullable) => *nullable,
+            None => false,
+        }
     }
 
     /// The live records, the ids increasing.
@@ -208,8 +240,8 @@ impl Table {
     pub fn set(&mut self, id: u32, var: usize, value: Option<u32>) -> Option<u32>
         requires increasing { AreIncreasing (ids_in self.old.facts) }
         requires there { IsSomeAnd (record_with_id id self.old.facts) (λ raw. var < length raw.values) }
-        ensures held { IsSomeAnd (record_with_id id self.old.facts) (λ raw. result ≡ slice_index_or raw.values var result) }
-        ensures now { self.new ≡ with_record self.old id (λ raw. record raw { values = slice_set raw.values var value }) }
+        ensures held { IsSomeAnd (record_with_id id self.old.facts) (HasValue var result) }
+        ensures now { self.new ≡ with_record self.old id (raw_with_value var value) }
     {
         match self.place(id) {
             Some(place) => {
@@ -224,7 +256,7 @@ impl Table {
     pub fn set_field(&mut self, id: u32, field: usize, number: i64)
         requires increasing { AreIncreasing (ids_in self.old.facts) }
         requires there { IsSomeAnd (record_with_id id self.old.facts) (λ raw. field < length raw.fields) }
-        ensures { self.new ≡ with_record self.old id (λ raw. record raw { fields = slice_set raw.fields field number }) }
+        ensures { self.new ≡ with_record self.old id (raw_with_field field number) }
     {
         match self.place(id) {
             Some(place) => {
@@ -237,7 +269,7 @@ impl Table {
 
     /// Appends a record with a new greatest id. At want of memory the table stays as it was.
     pub fn add(&mut self, raw: Raw) -> Result<(), Memory>
-        ensures ok { OnOk result (self.new ≡ record self.old { facts = self.old.facts ++ raw ∷ []; greatest = raw.id }) }
+        ensures ok { OnOk result (self.new ≡ with_next self.old raw) }
         ensures err { OnErr result (self.new ≡ self.old) }
     {
         let id = raw.id;
@@ -283,6 +315,7 @@ impl Table {
         Ok(Table {
             fields: self.fields,
             ranges: self.ranges.copy(alloc)?,
+            nullables: self.nullables.copy(alloc)?,
             ids: Vec::from_slice(alloc, &self.ids)?,
             facts,
             greatest: self.greatest,

@@ -17,8 +17,9 @@ impl Model for Text {
 }
 
 impl Text {
-    ghost use Rattle.std.specs.Prelude.{take, drop, ◌≡◌, ◌↔◌, ◌++◌, ◌∷◌, [], List, ℕ, IsTrue, IfNone, length, slice_get, IfOk, OnOk, OnErr, option_copied, option_to_list};
+    ghost use Rattle.std.specs.Prelude.{◌≡◌, ◌==◌, ◌↔◌, ◌++◌, ◌∷◌, [], List, ℕ, IsTrue, IfNone, length, slice_get, IfOk, OnOk, OnErr, option_copied, option_to_list};
     ghost use Rattle.std.specs.Borrow.{Lends, Array, sem, u8 as byte};
+    ghost use Rattle.plan_facts.specs.Lent.{written_back};
     ghost use Rattle.plan_facts.specs.contracts.text.Text.{the_row};
 
     /// The empty text.
@@ -53,6 +54,13 @@ impl Text {
         self.bytes.len()
     }
 
+    /// Whether there is no byte.
+    pub fn is_empty(&self) -> bool
+        ensures { result ≡ (length self.now == 0) }
+    {
+        self.bytes.is_empty()
+    }
+
     /// The byte at place `n`, from 0; none where the text ends before it.
     pub fn get(&self, n: usize) -> Option<&u8>
         ensures { option_copied result ≡ slice_get self.now n }
@@ -69,7 +77,7 @@ impl Text {
 
     /// All bytes, to be changed in their places.
     pub fn as_mut_slice(&mut self) -> &mut [u8]
-        ensures* writes_back { sem 𝓛 (Lends the_row (Array byte 0) self.entry result (λ w. take (length self.entry.now) (w ++ drop (length w) self.entry.now))) }
+        ensures* back { sem 𝓛 (Lends the_row (Array byte 0) self.entry result (written_back self.entry.now)) }
         ensures value { result.now ≡ self.old }
     {
         self.bytes.as_mut_slice()

@@ -8,6 +8,9 @@ use Rattle.std.proofs.lemmas.Option.{slice_get-get_or}
 use Rattle.std.proofs.lemmas.List.Quantifiers.{position-Some}
 use Rattle.std.proofs.lemmas.List.{length-map}
 use Rattle.std.proofs.lemmas.List.Elements.{All-weaker}
+use Rattle.plan_facts.specs.Limits.{weight_limit}
+use Rattle.plan_facts.specs.declared.record.ClassDef.{ClassDef}
+use Rattle.plan_rules.specs.declared.rule.Harder.{Harder}
 use Rattle.plan_rules.specs.declared.places.Numbers.{Numbers}
 use Rattle.plan_rules.specs.declared.rule.RuleDef.{RuleDef}
 use Rattle.plan_rules.specs.Faults.{rules_fault}
@@ -18,43 +21,52 @@ use Rattle.serde_json.specs.Find.{get, as_str}
 use Rattle.json_values.specs.Values.{value_of}
 use Rattle.plan_facts.specs.Plan.{PlanView}
 use Rattle.plan_facts.specs.PlanFaults.{plan_of}
-use Rattle.problem_faults.specs.Refusals.{IsRefusal}
+use Rattle.plan_facts.specs.Refusal.{IsRefusal}
+use Rattle.problem_faults.specs.Refusals.{RefusesFor}
 use Rattle.problem_faults.specs.declared.fault.ProblemFault.{ProblemFault}
 use Rattle.problem_faults.specs.declared.fault.ProblemFault.TheVariants.{Memory, TooLong}
-use Rattle.problem_settings.specs.Root.{root_fault}
+use Rattle.problem_settings.specs.Root.{format_of, root_fault}
+use Rattle.problem_settings.specs.declared.root.Format.{Format}
 use Rattle.problem_settings.specs.SettingsOf.{settings_fault_of}
 use Rattle.problem_settings.specs.Weights.{weights_fault, weights_of}
 use Rattle.problem_records.specs.Facts.{raws_of}
 use Rattle.problem_records.specs.RecordFaults.{records_fault}
 use Rattle.plan_json.specs.Limits.{limits_fault}
 use Rattle.plan_json.specs.declared.problem.Problem.{Problem}
-use Rattle.plan_json.specs.Accepted.{problem_view}
-use Rattle.plan_json.specs.Problem.{DomainView, ProblemView, content_fault, facts_of, place_of_domain, problem_at, problem_in, problem_of, problem_of_root, problem_of_value, problem_under, unless_fault}
+use Rattle.plan_json.specs.Accepted.{problem_view, Reads}
+use Rattle.plan_json.specs.Domains.{DomainView}
+use Rattle.plan_json.specs.Problem.{ProblemView, settings_fault_in, weights_fault_in, records_fault_in, weights_in, plan_in, content_fault, facts_of, place_of_domain, problem_at, problem_in, problem_of, problem_of_root, problem_of_value, problem_under, unless_fault}
 
 -- where settings, weights and records have no fault, the limits decide
-pub content_limits : (domain : DomainView) (root : Data) (settings weights : Option Data) (facts : Data) (ws : List ℕ) (plan : PlanView)
-    → settings ≡ get (codes "settings") root → weights ≡ get (codes "weights") root → facts ≡ facts_of root
-    → settings_fault_of settings ≡ None → weights_fault domain.rules weights ≡ None → records_fault domain.classes facts ≡ None
-    → ws ≡ weights_of domain.rules weights → plan ≡ plan_of domain.classes (raws_of domain.classes facts)
-    → content_fault domain root ≡ limits_fault domain.classes domain.rules domain.caps ws plan
-content_limits domain root settings weights facts ws plan se we fe sn wn rn ws_are plan_is =
-    let s : settings_fault_of (get (codes "settings") root) ≡ None = ap settings_fault_of (sym se) ∙ sn in
-    let w : weights_fault domain.rules (get (codes "weights") root) ≡ None = ap (weights_fault domain.rules) (sym we) ∙ wn in
-    let r : records_fault domain.classes (facts_of root) ≡ None = ap (records_fault domain.classes) (sym fe) ∙ rn in
-    let weights_in = weights_of domain.rules (get (codes "weights") root) in
-    let plan_in = plan_of domain.classes (raws_of domain.classes (facts_of root)) in
-    let limits = limits_fault domain.classes domain.rules domain.caps weights_in plan_in in
-    ap (λ f. option_or f (option_or (weights_fault domain.rules (get (codes "weights") root)) (option_or (records_fault domain.classes (facts_of root)) limits))) s
-    ∙ ap (λ f. option_or f (option_or (records_fault domain.classes (facts_of root)) limits)) w
-    ∙ ap (λ f. option_or f limits) r
-    ∙ ap (λ o. limits_fault domain.classes domain.rules domain.caps (weights_of domain.rules o) plan_in) (sym we)
-    ∙ ap (λ zs. limits_fault domain.classes domain.rules domain.caps zs plan_in) (sym ws_are)
-    ∙ ap (λ f. limits_fault domain.classes domain.rules domain.caps ws (plan_of domain.classes (raws_of domain.classes f))) (sym fe)
-    ∙ ap (limits_fault domain.classes domain.rules domain.caps ws) (sym plan_is)
+pub content_limits : (domain : DomainView) (root : Data) (ws : List ℕ) (plan : PlanView)
+    → settings_fault_in root ≡ None → weights_fault_in domain root ≡ None → records_fault_in domain root ≡ None
+    → ws ≡ weights_in domain root → plan ≡ plan_in domain root
+    → content_fault domain root ≡ limits_fault domain ws plan
+content_limits domain root ws plan sn wn rn ws_are plan_is =
+    let limits = limits_fault domain (weights_in domain root) (plan_in domain root) in
+    ap (λ f. option_or f (option_or (weights_fault_in domain root) (option_or (records_fault_in domain root) limits))) sn
+    ∙ ap (λ f. option_or f (option_or (records_fault_in domain root) limits)) wn
+    ∙ ap (λ f. option_or f limits) rn
+    ∙ ap (λ zs. limits_fault domain zs (plan_in domain root)) (sym ws_are)
+    ∙ ap (limits_fault domain ws) (sym plan_is)
+
+-- what was read of the parts of a root decides as the root does
+pub content_read : (domain : DomainView) (root facts : Data) (format : Format) (settings weights : Option Data) (rules : List RuleDef) (ws : List ℕ) (plan : PlanView)
+    → format ≡ format_of root → settings ≡ get (codes "settings") root → weights ≡ get (codes "weights") root → facts ≡ facts_of root → rules ≡ domain.rules
+    → settings_fault_of format settings ≡ None → weights_fault rules weights ≡ None → records_fault domain.classes facts ≡ None
+    → ws ≡ weights_of rules weights → plan ≡ plan_of domain.classes (raws_of domain.classes facts)
+    → content_fault domain root ≡ limits_fault domain ws plan
+content_read domain root facts format settings weights rules ws plan f_is s_is w_is facts_are rules_are sn wn rn ws_are plan_is =
+    content_limits domain root ws plan
+    ((λ i. settings_fault_of (sym f_is i) (sym s_is i)) ∙ sn)
+    ((λ i. weights_fault (sym rules_are i) (sym w_is i)) ∙ wn)
+    (ap (records_fault domain.classes) (sym facts_are) ∙ rn)
+    (ws_are ∙ (λ i. weights_of (rules_are i) (w_is i)))
+    (plan_is ∙ ap (λ f. plan_of domain.classes (raws_of domain.classes f)) facts_are)
 
 -- the refusal of an equal fault
-pub refused_as : (found other : Option ProblemFault) (fault : ProblemFault) → found ≡ other → IsRefusal other fault → IsRefusal found fault
-refused_as found other fault same h = subst (λ f. IsRefusal f fault) (sym same) h
+pub refused_as : (found other : Option ProblemFault) (fault : ProblemFault) → found ≡ other → IsRefusal Memory other fault → IsRefusal Memory found fault
+refused_as found other fault same h = subst (λ f. IsRefusal Memory f fault) (sym same) h
 
 map-map : {X Y Z : Type 0} (g : Y → Z) (f : X → Y) (xs : List X) → map g (map f xs) ≡ map (λ x. g (f x)) xs
 map-map g f [] = refl
@@ -96,18 +108,12 @@ problem_of_root-content f xs root place x sound at is =
     ∙ ap (problem_under root place) (slice_get-map f xs place x here)
 
 -- the problem that a root is, from what its content was read as
-pub root_ok : (domains : List DomainView) (root : Data) (place : ℕ) (domain : DomainView) (r : Result Problem ProblemFault)
+pub root_reads : (domains : List DomainView) (root : Data) (place : ℕ) (domain : DomainView) (r : Result Problem ProblemFault)
     → problem_of_root domains root ≡ unless_fault (content_fault domain root) (problem_in place domain root)
-    → OnOk r (content_fault domain root ≡ None) → IfOk r (λ p. problem_view p ≡ problem_in place domain root)
-    → IfOk r (λ p. problem_of_root domains root ≡ Ok (problem_view p))
-root_ok domains root place domain (Ok p) is none view = is ∙ ap (λ f. unless_fault f (problem_in place domain root)) none ∙ ap (λ v. Ok v) (sym view)
-root_ok domains root place domain (Err fault) is none view = view
-
-pub root_err : (domains : List DomainView) (root : Data) (place : ℕ) (domain : DomainView) (r : Result Problem ProblemFault)
-    → problem_of_root domains root ≡ unless_fault (content_fault domain root) (problem_in place domain root)
-    → IfErr r (IsRefusal (content_fault domain root)) → IfErr r (λ fault. (fault ≡ Memory) ⊎ (problem_of_root domains root ≡ Err fault))
-root_err domains root place domain (Ok p) is refused = refused
-root_err domains root place domain (Err fault) is refused =
+    → RefusesFor (content_fault domain root) r → IfOk r (λ p. problem_view p ≡ problem_in place domain root)
+    → Reads (problem_of_root domains root) r
+root_reads domains root place domain (Ok p) is none view = is ∙ ap (λ f. unless_fault f (problem_in place domain root)) none ∙ ap (λ v. Ok v) (sym view)
+root_reads domains root place domain (Err fault) is refused view =
     elim refused [ inl m ↦ inl m | inr found ↦ inr (is ∙ ap (λ f. unless_fault f (problem_in place domain root)) found) ]
 
 -- the domain of a problem that was read
@@ -129,26 +135,16 @@ pub problem_of-long : (domains : List DomainView) (bytes : List ℕ) → 6710886
 unfolding problem_of
 problem_of-long domains bytes many = ap (λ b. cond b (Err TooLong) (problem_of_value domains (value_of bytes))) (lt-ltb 67108864 (length bytes) many)
 
-pub read_ok : (domains : List DomainView) (bytes : List ℕ) (root : Data) (r : Result Problem ProblemFault) → length bytes ≤ 67108864 → value_of bytes ≡ Some root
-    → IfOk r (λ p. problem_of_root domains root ≡ Ok (problem_view p)) → IfOk r (λ p. problem_of domains bytes ≡ Ok (problem_view p))
-read_ok domains bytes root (Ok p) few is h = problem_of-value domains bytes (Some root) few is ∙ h
-read_ok domains bytes root (Err fault) few is h = h
+-- bytes are read as their root is
+pub bytes_read : (domains : List DomainView) (bytes : List ℕ) (root : Data) (r : Result Problem ProblemFault) → length bytes ≤ 67108864 → value_of bytes ≡ Some root
+    → Reads (problem_of_root domains root) r → Reads (problem_of domains bytes) r
+bytes_read domains bytes root (Ok p) few is h = problem_of-value domains bytes (Some root) few is ∙ h
+bytes_read domains bytes root (Err fault) few is h = elim h [ inl m ↦ inl m | inr found ↦ inr (problem_of-value domains bytes (Some root) few is ∙ found) ]
 
-pub read_err : (domains : List DomainView) (bytes : List ℕ) (root : Data) (r : Result Problem ProblemFault) → length bytes ≤ 67108864 → value_of bytes ≡ Some root
-    → IfErr r (λ fault. (fault ≡ Memory) ⊎ (problem_of_root domains root ≡ Err fault)) → IfErr r (λ fault. (fault ≡ Memory) ⊎ (problem_of domains bytes ≡ Err fault))
-read_err domains bytes root (Ok p) few is h = h
-read_err domains bytes root (Err fault) few is h = elim h [ inl m ↦ inl m | inr found ↦ inr (problem_of-value domains bytes (Some root) few is ∙ found) ]
-
--- the weights are at most a million where the rules' own are
-pub few_weights : (rules : List RuleDef) (classes : ℕ) (numbers : Numbers) (slice : List RuleDef) (weights : List ℕ) → rules_fault classes numbers rules ≡ None → slice ≡ rules
-    → (All (λ (rule : RuleDef). rule.weight ≤ 1000000) slice → All (λ weight. weight ≤ 1000000) weights) → All (λ weight. weight ≤ 1000000) weights
-few_weights rules classes numbers slice weights accepted same h =
-    h (subst (λ rs. All (λ (rule : RuleDef). rule.weight ≤ 1000000) rs) (sym same)
-    (All-weaker (IsSound classes numbers) (λ (rule : RuleDef). rule.weight ≤ 1000000) (λ rule sound. sound.weight) rules (sound_rules classes numbers rules accepted)))
-
--- what was read over equal rules
-pub no_fault_over : (rules slice : List RuleDef) (weights : Option Data) → slice ≡ rules → weights_fault slice weights ≡ None → weights_fault rules weights ≡ None
-no_fault_over rules slice weights same none = ap (λ rs. weights_fault rs weights) (sym same) ∙ none
-
-pub weights_over : (rules slice : List RuleDef) (weights : Option Data) (read : List ℕ) → slice ≡ rules → read ≡ weights_of slice weights → read ≡ weights_of rules weights
-weights_over rules slice weights read same is = is ∙ ap (λ rs. weights_of rs weights) same
+-- the weights are at most the greatest one where the rules' own are
+pub few_weights : (rules : List RuleDef) (classes : List ClassDef) (numbers : Numbers) (harders : List Harder) (slice : List RuleDef) (weights : List ℕ)
+    → rules_fault classes numbers rules harders ≡ None → slice ≡ rules
+    → (All (λ (rule : RuleDef). rule.weight ≤ weight_limit) slice → All (λ weight. weight ≤ weight_limit) weights) → All (λ weight. weight ≤ weight_limit) weights
+few_weights rules classes numbers harders slice weights accepted same h =
+    h (subst (λ rs. All (λ (rule : RuleDef). rule.weight ≤ weight_limit) rs) (sym same)
+    (All-weaker (IsSound (length classes) numbers) (λ (rule : RuleDef). rule.weight ≤ weight_limit) (λ rule sound. sound.weight) rules (sound_rules classes numbers rules harders accepted)))

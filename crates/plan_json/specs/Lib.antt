@@ -1,3 +1,5 @@
 pub mod Accepted
+pub mod Domains
 pub mod Limits
 pub mod Problem
+pub mod Seen

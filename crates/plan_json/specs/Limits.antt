@@ -1,19 +1,24 @@
 -- The limits of a problem: how many combinations of values, rows and score it may lead to.
-use Rattle.std.specs.Prelude.{ℕ, ◌*◌, Bool, nat_lt, find, List, [], fold, length, Option, option_map, slice_get}
+use Rattle.std.specs.Prelude.{ℕ, ◌+◌, ◌*◌, Bool, nat_lt, find, List, [], fold, length, Option, option_map, slice_get, if◌then◌else◌}
 use Rattle.std.specs.Option.{option_or, option_map_or}
 use Rattle.plan_facts.specs.Plan.{PlanView, ids_of}
-use Rattle.plan_facts.specs.PlanFaults.{ranges_of}
 use Rattle.plan_facts.specs.declared.record.ClassDef.{ClassDef}
+use Rattle.plan_facts.specs.declared.record.VarDef.{VarDef}
 use Rattle.plan_rules.specs.Range.{range_fault_of, sizes_of}
 use Rattle.plan_rules.specs.declared.rule.RuleDef.{RuleDef}
 use Rattle.plan_rules.specs.declared.fault.RangeFault.{RangeFault}
 use Rattle.plan_rules.specs.declared.fault.RangeFault.TheVariants as range
 use Rattle.problem_faults.specs.declared.fault.ProblemFault.{ProblemFault}
 use Rattle.problem_faults.specs.declared.fault.ProblemFault.TheVariants.{RangeProduct, RowsBound, ScoreRange}
+use Rattle.plan_json.specs.Domains.{DomainView}
 
--- how many combinations of values an entity of a class could take: the product of how many facts each of its ranges has
+-- how many choices a variable has: the facts of its range, and null where it may stay null
+abbrev pub choice_count : PlanView → VarDef → ℕ
+choice_count plan var = if var.nullable then length (ids_of plan var.values) + 1 else length (ids_of plan var.values)
+
+-- how many combinations of values an entity of a class could take: the product of the numbers of choices
 abbrev pub combination_count : PlanView → ClassDef → ℕ
-combination_count plan class = fold (λ count range. count * length (ids_of plan range)) 1 (ranges_of class)
+combination_count plan class = fold (λ count var. count * choice_count plan var) 1 class.vars
 
 -- an entity of the class could take more than 65,536 combinations
 abbrev pub is_wide : PlanView → ClassDef → Bool
@@ -32,8 +37,12 @@ abbrev pub named_range_fault : List RuleDef → RangeFault → ProblemFault
 named_range_fault rules (range.RowsBound rule) = RowsBound (rule_name rules rule)
 named_range_fault rules range.ScoreRange = ScoreRange
 
+-- too many rows or too great a score, for the rules of a domain under these weights
+abbrev pub range_fault_in : DomainView → List ℕ → PlanView → Option RangeFault
+range_fault_in domain weights plan = range_fault_of (sizes_of plan) domain.rules weights domain.caps
+
 -- the first class with too many combinations, or else too many rows or too great a score
-abbrev pub limits_fault : List ClassDef → List RuleDef → List ℕ → List ℕ → PlanView → Option ProblemFault
-limits_fault classes rules caps weights plan =
-    option_or (product_fault classes plan)
-    (option_map (named_range_fault rules) (range_fault_of (sizes_of plan) rules weights caps))
+abbrev pub limits_fault : DomainView → List ℕ → PlanView → Option ProblemFault
+limits_fault domain weights plan =
+    option_or (product_fault domain.classes plan)
+    (option_map (named_range_fault domain.rules) (range_fault_in domain weights plan))

@@ -1,15 +1,25 @@
-ghost use Rattle.std.specs.Prelude.{◌≡◌, ◌≤◌, None, OnOk, IfErr, IfOk, find, length, option_copied, option_map};
-ghost use Rattle.plan_rules.specs.Range.{range_fault_of, sizes_of};
-ghost use Rattle.problem_faults.specs.Refusals.{IsRefusal};
-ghost use Rattle.plan_json.specs.Limits.{is_wide, limits_fault, named_range_fault, rule_name};
+ghost use Rattle.std.specs.Prelude.{◌≡◌, ◌≤◌, None, OnOk, IfOk, find, length, option_copied, option_map};
+ghost use Rattle.plan_rules.specs.Range.{sizes_of};
+ghost use Rattle.problem_faults.specs.Refusals.{RefusesFor};
+ghost use Rattle.plan_json.specs.Limits.{choice_count, is_wide, range_fault_in, limits_fault, named_range_fault, rule_name};
+ghost use Rattle.plan_json.specs.Seen.{domain_view};
 
-use plan_facts::{ClassDef, List, Memory, Plan, Schema, Text};
+use crate::domain::Domain;
+use plan_facts::{ClassDef, List, Memory, Plan, Schema, Text, VarDef};
 use plan_rules::{Book, RangeFault, Rules};
 use problem_faults::ProblemFault;
 use std::alloc::Global;
 
 /// The most combinations of values that an entity may have to choose from.
 const COMBINATION_LIMIT: usize = 65_536;
+
+/// How many choices the variable has: the facts of its range, and null where it may stay null.
+fn choice_count(plan: &Plan, var: &VarDef) -> usize
+    ensures { result ≡ choice_count plan.now var.now }
+{
+    let count = plan.ids(var.values).len();
+    if var.nullable { count + 1 } else { count }
+}
 
 /// Whether an entity of the class, which has at most 2 variables, could take too many combinations of values.
 fn is_wide(plan: &Plan, class: &ClassDef) -> bool
@@ -18,10 +28,10 @@ fn is_wide(plan: &Plan, class: &ClassDef) -> bool
 {
     match class.vars.as_slice() {
         [] => false,
-        [one] => plan.ids(one.values).len() > COMBINATION_LIMIT,
+        [one] => choice_count(plan, one) > COMBINATION_LIMIT,
         [one, other, ..] => {
-            let ones = plan.ids(one.values).len();
-            let others = plan.ids(other.values).len();
+            let ones = choice_count(plan, one);
+            let others = choice_count(plan, other);
             ones.saturating_mul(others) > COMBINATION_LIMIT
         }
     }
@@ -66,15 +76,16 @@ fn name_of<B: Book>(alloc: Global, rules: &Rules<B>, rule: u8) -> Result<Text, M
 /// The first rule with too many rows, or that the score may be too great.
 fn check_range<B: Book>(
     alloc: Global,
-    rules: &Rules<B>,
+    domain: &Domain<B>,
     weights: &List<u32>,
     plan: &Plan,
 ) -> Result<(), ProblemFault>
-    requires { length weights.now ≡ length rules.now.defs }
-    ensures ok { OnOk result (range_fault_of (sizes_of plan.now) rules.now.defs weights.now rules.now.caps ≡ None) }
-    ensures err { IfErr result (IsRefusal (option_map (named_range_fault rules.now.defs) (range_fault_of (sizes_of plan.now) rules.now.defs weights.now rules.now.caps))) }
+    requires { length weights.now ≡ length domain.now.rules.defs }
+    ensures { let found = range_fault_in (domain_view domain.now) weights.now plan.now in
+        RefusesFor (option_map (named_range_fault domain.now.rules.defs) found) result }
 {
     let sizes = sizes_of(alloc, plan)?;
+    let rules = &domain.rules;
     match rules.range_fault(sizes.as_slice(), weights.as_slice()) {
         Some(RangeFault::RowsBound { rule }) => Err(ProblemFault::RowsBound {
             rule: name_of(alloc, rules, rule)?,
@@ -87,20 +98,18 @@ fn check_range<B: Book>(
 /// The first limit that the plan passes: too many combinations of values, too many rows, too great a score.
 pub fn check_limits<B: Book>(
     alloc: Global,
-    schema: &Schema,
-    rules: &Rules<B>,
+    domain: &Domain<B>,
     weights: &List<u32>,
     plan: &Plan,
 ) -> Result<(), ProblemFault>
-    requires { length weights.now ≡ length rules.now.defs }
-    ensures ok { OnOk result (limits_fault schema.now rules.now.defs rules.now.caps weights.now plan.now ≡ None) }
-    ensures range { OnOk result (range_fault_of (sizes_of plan.now) rules.now.defs weights.now rules.now.caps ≡ None) }
-    ensures err { IfErr result (IsRefusal (limits_fault schema.now rules.now.defs rules.now.caps weights.now plan.now)) }
+    requires { length weights.now ≡ length domain.now.rules.defs }
+    ensures refusal { RefusesFor (limits_fault (domain_view domain.now) weights.now plan.now) result }
+    ensures range { OnOk result (range_fault_in (domain_view domain.now) weights.now plan.now ≡ None) }
 {
-    if let Some(class) = wide_class(schema, plan) {
+    if let Some(class) = wide_class(&domain.schema, plan) {
         return Err(ProblemFault::RangeProduct {
             class: class.name.copy(alloc)?,
         });
     }
-    check_range(alloc, rules, weights, plan)
+    check_range(alloc, domain, weights, plan)
 }

@@ -1,9 +1,11 @@
-ghost use Rattle.std.specs.Prelude.{◌≡◌, ◌⊎◌, None, Some, Ok, Err, OnOk, IfErr, IfOk, IsSomeAnd, map, position, slice_get};
+ghost use Rattle.std.specs.Prelude.{◌≡◌, IfOk, map, position};
 ghost use Rattle.std.specs.Str.{bytes_eq};
 ghost use Rattle.serde_json.specs.View.{view};
-ghost use Rattle.problem_faults.specs.Refusals.{IsRefusal};
-ghost use Rattle.plan_json.specs.Accepted.{problem_view, IsAccepted};
-ghost use Rattle.plan_json.specs.Problem.{content_fault, domain_with, facts_of, place_of_domain, problem_in, problem_of, problem_of_root};
+ghost use Rattle.problem_faults.specs.Refusals.{RefusesFor};
+ghost use Rattle.problem_settings.specs.Root.{format_of};
+ghost use Rattle.plan_json.specs.Accepted.{problem_view, Reads, IsAccepted};
+ghost use Rattle.plan_json.specs.Problem.{content_fault, facts_of, place_of_domain, problem_in, problem_of, problem_of_root};
+ghost use Rattle.plan_json.specs.Seen.{domain_view, domain_views, IsAcceptedBy};
 
 use crate::domain::Domain;
 use crate::limits::check_limits;
@@ -12,7 +14,7 @@ use json_values::{ReadFault, member, read_value};
 use plan_rules::Book;
 use problem_faults::ProblemFault;
 use problem_records::read_records;
-use problem_settings::{check_root, read_settings, read_weights};
+use problem_settings::{Format, check_root, read_settings, read_weights};
 use serde_json::Value;
 use std::alloc::Global;
 
@@ -29,29 +31,25 @@ fn facts_of(root: &Value) -> &Value
     }
 }
 
-/// The problem of this domain that the root is.
+/// The problem of this domain that the root is, which has this format.
 fn read_content<B: Book>(
     alloc: Global,
     root: &Value,
+    format: Format,
     place: usize,
     domain: &Domain<B>,
 ) -> Result<Problem, ProblemFault>
-    ensures ok { OnOk result (content_fault (domain_with domain.now.name domain.now.schema domain.now.rules.defs domain.now.rules.caps) (view root.now) ≡ None) }
-    ensures problem { IfOk result (λ problem. problem_view problem ≡ problem_in place (domain_with domain.now.name domain.now.schema domain.now.rules.defs domain.now.rules.caps) (view root.now)) }
+    requires { format ≡ format_of (view root.now) }
+    ensures refusal { RefusesFor (content_fault (domain_view domain.now) (view root.now)) result }
+    ensures problem { let due = problem_in place (domain_view domain.now) (view root.now) in
+        IfOk result (λ problem. problem_view problem ≡ due) }
     ensures accepted { IfOk result (IsAccepted domain.now.rules.defs domain.now.rules.caps) }
-    ensures err { IfErr result (IsRefusal (content_fault (domain_with domain.now.name domain.now.schema domain.now.rules.defs domain.now.rules.caps) (view root.now))) }
 {
-    let settings = read_settings(alloc, member(root, b"settings"))?;
+    let settings = read_settings(alloc, format, member(root, b"settings"))?;
     let defs = domain.rules.defs.as_slice();
     let weights = read_weights(alloc, defs, member(root, b"weights"))?;
     let records = read_records(alloc, &domain.schema, facts_of(root))?;
-    check_limits(
-        alloc,
-        &domain.schema,
-        &domain.rules,
-        &weights,
-        &records.plan,
-    )?;
+    check_limits(alloc, domain, &weights, &records.plan)?;
     Ok(Problem {
         domain: place,
         plan: records.plan,
@@ -82,7 +80,7 @@ fn domain_named<B>(domains: &[Domain<B>], name: &[u8]) -> Option<usize>
 
 /// The place of the first domain of the name that the root has.
 fn domain_of<B>(domains: &[Domain<B>], root: &Value) -> Option<usize>
-    ensures { result ≡ place_of_domain (map (λ d. domain_with d.name d.schema d.rules.defs d.rules.caps) domains.now) (view root.now) }
+    ensures { result ≡ place_of_domain (domain_views domains.now) (view root.now) }
 {
     let name = member(root, b"domain")?.as_str()?;
     domain_named(domains, name.as_bytes())
@@ -94,15 +92,14 @@ fn read_root<B: Book>(
     root: &Value,
     domains: &[Domain<B>],
 ) -> Result<Problem, ProblemFault>
-    ensures ok { IfOk result (λ problem. problem_of_root (map (λ d. domain_with d.name d.schema d.rules.defs d.rules.caps) domains.now) (view root.now) ≡ Ok (problem_view problem)) }
-    ensures accepted { IfOk result (λ problem. IsSomeAnd (slice_get domains.now problem.domain) (λ d. IsAccepted d.rules.defs d.rules.caps problem)) }
-    ensures err { IfErr result (λ fault. (fault ≡ ProblemFault.Memory) ⊎ (problem_of_root (map (λ d. domain_with d.name d.schema d.rules.defs d.rules.caps) domains.now) (view root.now) ≡ Err fault)) }
+    ensures problem { Reads (problem_of_root (domain_views domains.now) (view root.now)) result }
+    ensures accepted { IfOk result (IsAcceptedBy domains.now) }
 {
-    check_root(alloc, root)?;
+    let format = check_root(alloc, root)?;
     let Some(place) = domain_of(domains, root) else {
         return Err(ProblemFault::UnknownDomain);
     };
-    read_content(alloc, root, place, &domains[place])
+    read_content(alloc, root, format, place, &domains[place])
 }
 
 /// The problem that the bytes are, or the first refusal in the order that [`ProblemFault`] gives; only want of memory may
@@ -112,9 +109,8 @@ pub fn read_problem<B: Book>(
     bytes: &[u8],
     domains: &[Domain<B>],
 ) -> Result<Problem, ProblemFault>
-    ensures ok { IfOk result (λ problem. problem_of (map (λ d. domain_with d.name d.schema d.rules.defs d.rules.caps) domains.now) bytes.now ≡ Ok (problem_view problem)) }
-    ensures accepted { IfOk result (λ problem. IsSomeAnd (slice_get domains.now problem.domain) (λ d. IsAccepted d.rules.defs d.rules.caps problem)) }
-    ensures err { IfErr result (λ fault. (fault ≡ ProblemFault.Memory) ⊎ (problem_of (map (λ d. domain_with d.name d.schema d.rules.defs d.rules.caps) domains.now) bytes.now ≡ Err fault)) }
+    ensures problem { Reads (problem_of (domain_views domains.now) bytes.now) result }
+    ensures accepted { IfOk result (IsAcceptedBy domains.now) }
 {
     if bytes.len() > BYTE_LIMIT {
         return Err(ProblemFault::TooLong);

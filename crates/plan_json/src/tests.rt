@@ -4,6 +4,7 @@ use super::*;
 use plan_facts::{ClassDef, FieldDef, Kind, List, Memory, Schema, Text, VarDef, is_name};
 use plan_rules::{Book, Head, RuleDef, Rules};
 use plan_scores::Level;
+use plan_settings::Construction;
 use problem_faults::{ProblemFault, write_refusal};
 use std::alloc::Global;
 use std::process::Abort;
@@ -21,12 +22,12 @@ impl Book for Silent {
     ghost meaning = { record { test_of = λ _ _. false; key_of = λ _ _. pos 0; weight_of = λ _ _. 0 } };
 }
 
-/// A class with these fields and these variables.
+/// A class with these fields and these variables, each with its value class and whether it may stay null.
 fn class_of(
     alloc: Global,
     name: &[u8],
     fields: &[(&[u8], Kind)],
-    vars: &[(&[u8], u8)],
+    vars: &[(&[u8], u8, bool)],
 ) -> Result<ClassDef, Memory> {
     let mut class = ClassDef {
         name: Text::from_slice(alloc, name)?,
@@ -37,18 +38,20 @@ fn class_of(
         let name = Text::from_slice(alloc, name)?;
         class.fields.push(FieldDef { name, kind: *kind })?;
     }
-    for (name, values) in vars {
+    for (name, values, nullable) in vars {
         let name = Text::from_slice(alloc, name)?;
+        let (values, nullable) = (*values, *nullable);
         class.vars.push(VarDef {
             name,
-            values: *values,
+            values,
+            nullable,
         })?;
     }
     Ok(class)
 }
 
-/// Timeslots, rooms, and lessons that have a slot and a room.
-fn classes(alloc: Global) -> Result<List<ClassDef>, Memory> {
+/// Timeslots, rooms, and lessons that have a slot, which may stay null or not, and a room.
+fn classes(alloc: Global, nullable: bool) -> Result<List<ClassDef>, Memory> {
     let mut classes = List::new(alloc);
     classes.push(class_of(alloc, b"timeslot", &[(b"day", Kind::Number)], &[])?)?;
     classes.push(class_of(alloc, b"room", &[(b"capacity", Kind::Number)], &[])?)?;
@@ -56,7 +59,7 @@ fn classes(alloc: Global) -> Result<List<ClassDef>, Memory> {
         alloc,
         b"lesson",
         &[(b"subject", Kind::Name), (b"size", Kind::Number)],
-        &[(b"slot", 0), (b"room", 1)],
+        &[(b"slot", 0, nullable), (b"room", 1, false)],
     )?)?;
     Ok(classes)
 }
@@ -76,13 +79,13 @@ fn rules(alloc: Global) -> Result<List<RuleDef>, Memory> {
     Ok(rules)
 }
 
-/// A domain of this name.
-fn domain(alloc: Global, name: &[u8]) -> Result<Domain<Silent>, Fail> {
+/// A domain of this name, in which a slot may stay null or not.
+fn domain(alloc: Global, name: &[u8], nullable: bool) -> Result<Domain<Silent>, Fail> {
     let name = Text::from_slice(alloc, name)?;
     if !is_name(name.as_slice()) {
         return Err("no name".into());
     }
-    let schema = Schema::build(classes(alloc)?)?;
+    let schema = Schema::build(classes(alloc, nullable)?)?;
     let rules = Rules::build(
         alloc,
         &schema,
@@ -90,15 +93,16 @@ fn domain(alloc: Global, name: &[u8]) -> Result<Domain<Silent>, Fail> {
         List::new(alloc),
         List::new(alloc),
         List::new(alloc),
+        List::new(alloc),
     )?;
     Ok(Domain::new(name, schema, rules, Vec::new(alloc)))
 }
 
-/// Two domains, of which problems name the second.
+/// Two domains, of which most problems name the second.
 fn domains(alloc: Global) -> Result<Vec<Domain<Silent>>, Fail> {
     let mut domains = Vec::new(alloc);
-    domains.push(domain(alloc, b"roster")?)?;
-    domains.push(domain(alloc, b"timetable")?)?;
+    domains.push(domain(alloc, b"open", true)?)?;
+    domains.push(domain(alloc, b"timetable", false)?)?;
     Ok(domains)
 }
 
@@ -124,57 +128,72 @@ fn try_problem(
 }
 
 /// Problems, beside what is written of them.
-const PROBLEMS: [(&[u8], &[u8]); 16] = [
+const PROBLEMS: [(&[u8], &[u8]); 22] = [
+    (b"", b"refused problem json\n"),
     (b"{", b"refused problem json\n"),
-    (b"[]", b"refused problem shape /\n"),
+    (b"\xff", b"refused problem json\n"),
     (
-        b"{\"format\":2,\"domain\":\"chess\",\"facts\":{}}",
+        br#"{"format":1,"domain":"timetable","facts":{}} {}"#,
+        b"refused problem json\n",
+    ),
+    (b"[]", b"refused problem shape /\n"),
+    (b"null", b"refused problem shape /\n"),
+    (
+        br#"{"format":3,"domain":"chess","facts":{}}"#,
         b"refused problem shape /format\n",
     ),
+    (br#"{"format":1}"#, b"refused problem shape /domain\n"),
     (
-        b"{\"format\":1,\"domain\":\"chess\",\"settings\":{\"steps\":1000001},\"facts\":{}}",
+        br#"{"format":1,"domain":"chess","settings":{"steps":1000001},"facts":{}}"#,
         b"refused problem domain\n",
     ),
     (
-        b"{\"format\":1,\"domain\":\"timetable\",\"settings\":{\"steps\":1000001},\"weights\":{\"any_lesson\":1000001},\"facts\":{}}",
+        br#"{"format":1,"domain":"timetable","settings":{"steps":1000001},"weights":{"any_lesson":1000001},"facts":{}}"#,
         b"refused problem setting steps\n",
     ),
     (
-        b"{\"format\":1,\"domain\":\"timetable\",\"weights\":{\"any_lesson\":1000001},\"facts\":{\"lesson\":[{\"id\":1}]}}",
+        br#"{"format":1,"domain":"timetable","settings":{"steps":0,"construction":"first_fit"},"facts":{}}"#,
+        b"refused problem shape /settings\n",
+    ),
+    (
+        br#"{"format":1,"domain":"timetable","weights":{"any_lesson":1000001},"facts":{"lesson":[{"id":1}]}}"#,
         b"refused problem shape /weights/any_lesson\n",
     ),
     (
-        b"{\"format\":1,\"domain\":\"timetable\",\"weights\":{\"no_lesson\":1},\"facts\":{}}",
+        br#"{"format":1,"domain":"timetable","weights":{"no_lesson":1},"facts":{}}"#,
         b"refused problem shape /weights\n",
     ),
     (
-        b"{\"format\":1,\"domain\":\"timetable\",\"facts\":{\"lesson\":[{\"id\":1,\"subject\":\"Maths\"}]}}",
+        br#"{"format":1,"domain":"timetable","facts":{"lesson":[{"id":1,"subject":"Maths"}]}}"#,
         b"refused problem shape /facts/lesson/0/size\n",
     ),
     (
-        b"{\"format\":1,\"domain\":\"timetable\",\"facts\":{\"room\":[{\"id\":1,\"capacity\":1000000001}]}}",
+        br#"{"format":1,"domain":"timetable","facts":{"lesson":[{"id":1,"subject":"Maths","size":20,"pinned":0}]}}"#,
+        b"refused problem shape /facts/lesson/0/pinned\n",
+    ),
+    (
+        br#"{"format":1,"domain":"timetable","facts":{"rum":[]}}"#,
+        b"refused problem shape /facts\n",
+    ),
+    (
+        br#"{"format":1,"domain":"timetable","facts":{"room":[{"id":1,"capacity":1000000001}]}}"#,
         b"refused problem bad_field room#1 capacity\n",
     ),
     (
-        b"{\"format\":1,\"domain\":\"timetable\",\"facts\":{\"room\":[{\"id\":1,\"capacity\":30},{\"id\":1,\"capacity\":30}]}}",
+        br#"{"format":1,"domain":"timetable","facts":{"room":[{"id":1,"capacity":30},{"id":1,"capacity":30}]}}"#,
         b"refused problem double_id room#1\n",
     ),
     (
-        b"{\"format\":1,\"domain\":\"timetable\",\"facts\":{\"lesson\":[{\"id\":1,\"subject\":\"Maths\",\"size\":20,\"slot\":9}]}}",
+        br#"{"format":1,"domain":"timetable","facts":{"lesson":[{"id":1,"subject":"Maths","size":20,"slot":9}]}}"#,
         b"refused problem bad_value lesson#1 slot\n",
     ),
+    (br#"{"format":1,"domain":"timetable","facts":{}}"#, b""),
     (
-        b"{\"format\":1,\"domain\":\"timetable\",\"facts\":{\"block\":[]}}",
-        b"refused problem shape /facts\n",
+        br#"{"format":2,"domain":"timetable","settings":{"construction":"first_fit_decreasing"},"facts":{}}"#,
+        b"",
     ),
-    (b"", b"refused problem json\n"),
     (
-        b"{\"format\":1,\"domain\":\"timetable\",\"facts\":{}} {}",
-        b"refused problem json\n",
-    ),
-    (b"{\"format\":1,\"domain\":\"timetable\",\"facts\":{}}", b""),
-    (
-        b"{\"format\":1,\"domain\":\"roster\",\"settings\":{\"steps\":1000000},\"weights\":{\"any_lesson\":1000000},\"facts\":{}}",
+        br#"{"format":1,"domain":"open","settings":{"steps":1000000},"weights":{"any_lesson":1000000},"facts":{}}"#,
         b"",
     ),
 ];
@@ -208,37 +227,53 @@ fn push_records(out: &mut Vec<u8>, count: u32, member: &[u8]) -> Result<(), Memo
     Ok(())
 }
 
-/// A problem with so many timeslots, as many rooms, and no lesson.
-fn wide_problem(alloc: Global, count: u32) -> Result<Vec<u8>, Memory> {
-    let mut out = Vec::from_slice(
-        alloc,
-        b"{\"format\":1,\"domain\":\"timetable\",\"facts\":{\"timeslot\":[",
-    )?;
-    push_records(&mut out, count, b",\"day\":1}")?;
-    out.extend_from_slice(b"],\"room\":[")?;
-    push_records(&mut out, count, b",\"capacity\":30}")?;
+/// A problem of this domain with so many timeslots, so many rooms, and no lesson.
+fn wide_problem(alloc: Global, domain: &[u8], slots: u32, rooms: u32) -> Result<Vec<u8>, Memory> {
+    let mut out = Vec::from_slice(alloc, br#"{"format":1,"domain":""#)?;
+    out.extend_from_slice(domain)?;
+    out.extend_from_slice(br#"","facts":{"timeslot":["#)?;
+    push_records(&mut out, slots, br#","day":1}"#)?;
+    out.extend_from_slice(br#"],"room":["#)?;
+    push_records(&mut out, rooms, br#","capacity":30}"#)?;
     out.extend_from_slice(b"]}}")?;
     Ok(out)
 }
 
+/// Domains, numbers of timeslots and of rooms, and what is written of such a problem.
+const WIDE: [(&[u8], u32, u32, &[u8]); 6] = [
+    (b"timetable", 256, 256, b""),
+    (
+        b"timetable",
+        257,
+        256,
+        b"refused problem range_product lesson\n",
+    ),
+    (
+        b"timetable",
+        300,
+        300,
+        b"refused problem range_product lesson\n",
+    ),
+    (b"open", 255, 256, b""),
+    (b"open", 256, 256, b"refused problem range_product lesson\n"),
+    (b"open", 700, 0, b""),
+];
+
 #[test]
 fn accepts_as_many_combinations_as_the_limit(rt: HostRuntime) -> Result<(), Fail> {
     let domains = domains(rt.alloc())?;
-    let cases: [(u32, &[u8]); 3] = [
-        (256, b""),
-        (257, b"refused problem range_product lesson\n"),
-        (300, b"refused problem range_product lesson\n"),
-    ];
-    for (count, wanted) in cases {
-        let text = wide_problem(rt.alloc(), count)?;
+    for (domain, slots, rooms, wanted) in WIDE {
+        let text = wide_problem(rt.alloc(), domain, slots, rooms)?;
         try_problem(&rt, rt.alloc(), &domains, &text, wanted)?;
     }
     Ok(())
 }
 
 /// A problem that says all.
-const TOLD: &[u8] =
-    b"{\"facts\":{\"lesson\":[{\"id\":4,\"subject\":\"Physics\",\"size\":20},{\"room\":7,\"id\":1,\"subject\":\"Maths\",\"size\":-3,\"slot\":null}],\"room\":[{\"id\":7,\"capacity\":30}]},\"weights\":{\"any_lesson\":5},\"settings\":{\"seed\":9,\"steps\":3},\"domain\":\"timetable\",\"format\":1}";
+const TOLD: &[u8] = br#"{"facts":{"lesson":[{"id":4,"subject":"Physics","size":20},
+{"room":7,"id":1,"subject":"Maths","size":-3,"slot":null,"pinned":true}],"room":[{"id":7,"capacity":30}]},
+"weights":{"any_lesson":5},"settings":{"construction":"first_fit_decreasing","seed":9,"steps":3},
+"domain":"timetable","format":2}"#;
 
 #[test]
 fn reads_a_problem(rt: HostRuntime) -> Result<(), Fail> {
@@ -248,9 +283,11 @@ fn reads_a_problem(rt: HostRuntime) -> Result<(), Fail> {
     assert_eq!(rt; (read.settings.seed, read.settings.steps), (9, 3));
     assert_eq!(rt; read.weights.as_slice(), [5].as_slice());
     assert_eq!(rt; (read.plan.made(), read.plan.unplaced()), (3, 3));
+    assert_eq!(rt; read.settings.construction, Construction::Decreasing);
     let lesson = read.plan.raw(LESSON, 1).ok_or("no such lesson")?;
     assert_eq!(rt; lesson.fields.as_slice(), [1, -3].as_slice());
     assert_eq!(rt; lesson.values.as_slice(), [None, Some(7)].as_slice());
+    assert!(rt; lesson.pinned);
     assert_eq!(rt; read.names.find(b"Maths"), Some(1));
     Ok(())
 }

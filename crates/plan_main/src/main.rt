@@ -3,20 +3,17 @@
 
 ghost use Rattle.std.specs.Thread.{IsSync};
 
-use plan_domains::Shipped;
 use plan_facts::{Memory, Text};
 use plan_json::Domain;
 use plan_ports::{FileShelf, NoGate, OutSink};
 use plan_session::{Status, run};
-use shipped_domains::{Act, with_shipped_domains};
+use shipped_domains::{Act, Shipped, with_shipped_domains};
 use std::alloc::Global;
 use std::process::ExitCode;
 use std::sync::Wait;
 use std::thread::Threads;
 use std::{env, io};
 
-#[cfg(test)]
-mod tables;
 #[cfg(test)]
 mod tests;
 

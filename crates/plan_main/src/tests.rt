@@ -1,28 +1,47 @@
 ghost use Rattle.std.specs.Prelude.{All, IfOk};
 ghost use Rattle.std.specs.Thread.{IsSync};
 
+mod rows;
+
 use super::*;
-use crate::tables::*;
-use plan_domains::{Row, TestBody, WeighBody, shipped_test, shipped_weight};
 use plan_facts::{List, is_name};
 use plan_ports::{MemFile, MemShelf, MemSink};
 use plan_rules::{Kept, Rules, Test, Weigh};
+use rows::{APART, PARTS, REFUSED, ROWS, TOGETHER, TOGETHER_TEXT};
+use shipped_domains::{Row, TestBody, WeighBody, shipped_test, shipped_weight};
 use std::process::Abort;
 use std::test::Fail;
 
-/// All bytes of some parts, one after the other.
-fn joined(alloc: Global, parts: &[&[u8]]) -> Result<Vec<u8>, Memory> {
-    let mut whole = Vec::new(alloc);
-    for part in parts {
-        whole.extend_from_slice(part)?;
+/// The part of a text that has this name.
+fn part(name: &str) -> &'static str {
+    for (known, text) in PARTS {
+        if *known == name {
+            return text;
+        }
     }
-    Ok(whole)
+    ""
 }
 
-/// A run over memory: the words, the bytes of the file `p`, the opens and the puts that fail, and how many bytes a put takes.
+/// A text with its parts filled in.
+fn filled(alloc: Global, text: &str) -> Result<Vec<u8>, Memory> {
+    let mut out = Vec::new(alloc);
+    for piece in text.split('<') {
+        match piece.split_once('>') {
+            Some((name, rest)) => {
+                out.extend_from_slice(part(name).as_bytes())?;
+                out.extend_from_slice(rest.as_bytes())?;
+            }
+            None => out.extend_from_slice(piece.as_bytes())?,
+        }
+    }
+    Ok(out)
+}
+
+/// A run over memory: the words, the bytes of the file `p`, the opens and the puts that fail, and how many bytes a put
+/// takes.
 #[derive(Drop)]
 struct Asked {
-    words: &'static [&'static str],
+    words: &'static str,
     problem: Vec<u8>,
     opens: &'static [u32],
     puts: Vec<u32>,
@@ -39,18 +58,18 @@ struct Outcome {
 /// `solve` of a problem, over a sink that takes what it is given.
 fn solved(alloc: Global, problem: Vec<u8>) -> Asked {
     Asked {
-        words: &["solve", "p"],
+        words: "solve p",
         problem,
         opens: &[],
         puts: Vec::new(alloc),
-        most: 1000,
+        most: 4096,
     }
 }
 
-fn words_in(alloc: Global, texts: &[&str]) -> Result<Vec<Text>, Memory> {
+fn words_in(alloc: Global, line: &str) -> Result<Vec<Text>, Memory> {
     let mut words = Vec::new(alloc);
-    for text in texts {
-        words.push(Text::from_slice(alloc, text.as_bytes())?)?;
+    for word in line.split_whitespace() {
+        words.push(Text::from_slice(alloc, word.as_bytes())?)?;
     }
     Ok(words)
 }
@@ -61,7 +80,7 @@ fn shelf_of(alloc: Global, bytes: &[u8], fail: &[u32]) -> Result<MemShelf, Memor
     files.push(MemFile {
         name: Vec::from_slice(alloc, b"p")?,
         bytes: Vec::from_slice(alloc, bytes)?,
-        most: 50,
+        most: 4096,
         fail: Vec::new(alloc),
     })?;
     Ok(MemShelf::new(alloc, files, Vec::from_slice(alloc, fail)?))
@@ -148,13 +167,9 @@ fn expect(rt: &impl Abort, outcome: &Outcome, text: &[u8], status: Status) {
 fn asked_rows(alloc: Global) -> Result<Vec<Asked>, Memory> {
     let mut asked = Vec::new(alloc);
     for case in ROWS {
-        asked.push(Asked {
-            words: case.words,
-            problem: joined(alloc, case.problem)?,
-            opens: case.opens,
-            puts: Vec::from_slice(alloc, case.puts)?,
-            most: 1000,
-        })?;
+        let mut one = solved(alloc, filled(alloc, case.problem)?);
+        one.words = case.words;
+        asked.push(one)?;
     }
     Ok(asked)
 }
@@ -165,7 +180,7 @@ fn runs_print_what_was_worked_by_hand(rt: HostRuntime) -> Result<(), Fail> {
     let outcomes = outcomes(&rt, alloc, asked_rows(alloc)?)?;
     assert_eq!(rt; outcomes.len(), ROWS.len());
     for (outcome, case) in outcomes.iter().zip(ROWS) {
-        expect(&rt, outcome, &joined(alloc, case.text)?, case.status);
+        expect(&rt, outcome, &filled(alloc, case.text)?, case.status);
     }
     Ok(())
 }
@@ -173,9 +188,17 @@ fn runs_print_what_was_worked_by_hand(rt: HostRuntime) -> Result<(), Fail> {
 fn asked_refused(alloc: Global) -> Result<Vec<Asked>, Memory> {
     let mut asked = Vec::new(alloc);
     for (problem, _) in REFUSED {
-        asked.push(solved(alloc, joined(alloc, problem)?))?;
+        asked.push(solved(alloc, filled(alloc, problem)?))?;
     }
     Ok(asked)
+}
+
+/// The line that refuses a problem for a cause.
+fn refusal(alloc: Global, cause: &str) -> Result<Vec<u8>, Memory> {
+    let mut line = Vec::from_slice(alloc, b"refused problem ")?;
+    line.extend_from_slice(cause.as_bytes())?;
+    line.push(b'\n')?;
+    Ok(line)
 }
 
 #[test]
@@ -184,67 +207,101 @@ fn refused_problems_name_their_first_fault(rt: HostRuntime) -> Result<(), Fail> 
     let outcomes = outcomes(&rt, alloc, asked_refused(alloc)?)?;
     assert_eq!(rt; outcomes.len(), REFUSED.len());
     for (outcome, (_, cause)) in outcomes.iter().zip(REFUSED) {
-        let line = joined(alloc, &[b"refused problem ", cause, b"\n"])?;
-        expect(&rt, outcome, &line, Status::Problem);
+        expect(&rt, outcome, &refusal(alloc, cause)?, Status::Problem);
     }
     Ok(())
 }
 
-/// Writes the digits of an id, from 100,001 on.
+/// A byte that is no text, 200 arrays in one another, and a problem whose file can't be opened and whose text can't be put.
+fn asked_hostile(alloc: Global) -> Result<Vec<Asked>, Memory> {
+    let mut asked = Vec::new(alloc);
+    asked.push(solved(alloc, Vec::from_slice(alloc, b"\xff")?))?;
+    let mut nested = Vec::new(alloc);
+    for byte in [b'[', b']'] {
+        for _ in 0..200 {
+            nested.push(byte)?;
+        }
+    }
+    asked.push(solved(alloc, nested))?;
+    let mut closed = solved(alloc, filled(alloc, APART)?);
+    closed.opens = &[0];
+    asked.push(closed)?;
+    let mut full = solved(alloc, filled(alloc, APART)?);
+    full.puts.push(0)?;
+    asked.push(full)?;
+    Ok(asked)
+}
+
+/// What is written of each of them, and the status.
+const HOSTILE: [(&[u8], Status); 4] = [
+    (b"refused problem json\n", Status::Problem),
+    (b"refused problem json\n", Status::Problem),
+    (b"refused source\n", Status::Source),
+    (b"", Status::Write),
+];
+
+#[test]
+fn hostile_bytes_and_calls_end_the_run(rt: HostRuntime) -> Result<(), Fail> {
+    let alloc = rt.alloc();
+    let outcomes = outcomes(&rt, alloc, asked_hostile(alloc)?)?;
+    assert_eq!(rt; outcomes.len(), HOSTILE.len());
+    for (outcome, (text, status)) in outcomes.iter().zip(&HOSTILE) {
+        expect(&rt, outcome, text, *status);
+    }
+    Ok(())
+}
+
+/// Writes the digits of an id, from 1,000,001 on.
 fn push_id(out: &mut Vec<u8>, place: u32) -> Result<(), Memory> {
     out.push(b'1')?;
-    for unit in [10000, 1000, 100, 10, 1] {
+    for unit in [100_000, 10_000, 1000, 100, 10, 1] {
         out.push(b"0123456789"[(place / unit % 10) as usize])?;
     }
     Ok(())
 }
 
-/// Writes so many records, with one further member each.
-fn push_records(out: &mut Vec<u8>, count: u32, member: &[u8]) -> Result<(), Memory> {
+/// Writes so many records, with further members each.
+fn push_records(out: &mut Vec<u8>, count: u32, members: &[u8]) -> Result<(), Memory> {
     let mut comma: &[u8] = b"";
     for place in 0..count {
         out.extend_from_slice(comma)?;
         out.extend_from_slice(b"{\"id\":")?;
         push_id(out, place)?;
-        out.extend_from_slice(member)?;
-        comma = COMMA;
+        out.extend_from_slice(members)?;
+        comma = b",";
     }
     Ok(())
 }
 
 /// A problem of so many timeslots and rooms, and no lesson.
 fn wide_problem(alloc: Global, slots: u32, rooms: u32) -> Result<Vec<u8>, Memory> {
-    let mut out = Vec::from_slice(alloc, HEAD)?;
+    let mut out = filled(alloc, "<T>")?;
     push_records(&mut out, slots, b",\"day\":1,\"start\":480,\"end\":540}")?;
-    out.extend_from_slice(ROOMS)?;
+    out.extend_from_slice(part("R").as_bytes())?;
     push_records(&mut out, rooms, b",\"capacity\":30}")?;
-    out.extend_from_slice(LESSONS)?;
-    out.extend_from_slice(TAIL)?;
+    out.extend_from_slice(part("L").as_bytes())?;
+    out.extend_from_slice(part("E").as_bytes())?;
     Ok(out)
 }
 
 /// So many timeslots and rooms, what is written of them, and the status.
-const WIDE: &[(u32, u32, &[&[u8]], Status)] = &[
+const WIDE: &[(u32, u32, &str, Status)] = &[
     (
         0,
-        20_000,
-        &[
-            b"run timetable\nleg 0\nstart 0hard/0medium/0soft\nbest 0hard/0medium/0soft\n",
-            ZEROS,
-            END,
-        ],
+        100_000,
+        "run timetable\nleg 0\nstart <Z>\nbest <Z>\n<TZ>\nend\n",
         Status::Ok,
     ),
     (
         0,
-        20_001,
-        &[b"refused problem too_many_facts\n"],
+        100_001,
+        "refused problem too_many_facts\n",
         Status::Problem,
     ),
     (
         300,
         300,
-        &[b"refused problem range_product lesson\n"],
+        "refused problem range_product lesson\n",
         Status::Problem,
     ),
 ];
@@ -263,19 +320,19 @@ fn wide_problems_keep_the_limits(rt: HostRuntime) -> Result<(), Fail> {
     let outcomes = outcomes(&rt, alloc, asked_wide(alloc)?)?;
     assert_eq!(rt; outcomes.len(), WIDE.len());
     for (outcome, (_, _, text, status)) in outcomes.iter().zip(WIDE) {
-        expect(&rt, outcome, &joined(alloc, text)?, *status);
+        expect(&rt, outcome, &filled(alloc, text)?, *status);
     }
     Ok(())
 }
 
-/// How many puts of 7 bytes the text of two lessons that clash takes.
+/// How many puts of 7 bytes the text of two lessons that share a room takes.
 const PUTS: u32 = 92;
 
-/// Two lessons that clash, over a sink that takes 7 bytes in each put and fails at one of them.
+/// Two lessons that share a room, over a sink that takes 7 bytes in each put and fails at one of them.
 fn asked_failing(alloc: Global) -> Result<Vec<Asked>, Memory> {
     let mut asked = Vec::new(alloc);
     for put in 0..PUTS {
-        let mut failing = solved(alloc, joined(alloc, ROWS[1].problem)?);
+        let mut failing = solved(alloc, filled(alloc, TOGETHER)?);
         failing.puts.push(put)?;
         failing.most = 7;
         asked.push(failing)?;
@@ -286,12 +343,12 @@ fn asked_failing(alloc: Global) -> Result<Vec<Asked>, Memory> {
 #[test]
 fn a_failing_put_leaves_a_front(rt: HostRuntime) -> Result<(), Fail> {
     let alloc = rt.alloc();
-    let text = joined(alloc, ROWS[1].text)?;
+    let text = filled(alloc, TOGETHER_TEXT)?;
     let outcomes = outcomes(&rt, alloc, asked_failing(alloc)?)?;
     assert_eq!(rt; outcomes.len(), PUTS as usize);
     for (place, outcome) in outcomes.iter().enumerate() {
         assert!(rt; text.starts_with(&outcome.text));
-        assert_eq!(rt; outcome.text.len(), place.saturating_mul(7));
+        assert!(rt; outcome.text.len() <= place.saturating_mul(7));
         assert_eq!(rt; outcome.status, Status::Write);
     }
     Ok(())
@@ -336,28 +393,34 @@ fn room_size_alone(
     let mut defs = List::new(alloc);
     defs.push(all.pop().ok_or("no such rule")?)?;
     let schema = domain_timetable::schema(alloc)?;
-    let rules = Rules::build(alloc, &schema, defs, tests, List::new(alloc), weighers)?;
+    let rules = Rules::build(
+        alloc,
+        &schema,
+        defs,
+        tests,
+        List::new(alloc),
+        weighers,
+        List::new(alloc),
+    )?;
     Ok(Domain::new(name, schema, rules, Vec::new(alloc)))
 }
 
 /// Two timeslots, a room that is too small for a lesson, a room that isn't, and two lessons.
-const ROOM_TOO_SMALL: &[&[u8]] = &[
-    HEAD,
-    S1,
-    COMMA,
-    S2,
-    ROOMS,
-    b"{\"id\":1,\"capacity\":10},{\"id\":2,\"capacity\":30}",
-    LESSONS,
-    A,
-    COMMA,
-    B,
-    TAIL,
-];
+const ROOM_TOO_SMALL: &str =
+    r#"<T><s1>,<s2><R>{"id":1,"capacity":10},{"id":2,"capacity":30}<L><a>,<b><E>"#;
 
 /// How they are placed where nothing but the size of rooms counts.
-const PLACED_BY_SIZE: &[u8] =
-    b"run timetable\nleg 0\nplace lesson#1 slot=1 room=2 -2init/0hard/0medium/0soft\nplace lesson#2 slot=1 room=2 0hard/0medium/0soft\nstart 0hard/0medium/0soft\nbest 0hard/0medium/0soft\nlesson#1 slot=1 room=2\nlesson#2 slot=1 room=2\nrule room_size 0 0hard/0medium/0soft\nend\n";
+const PLACED_BY_SIZE: &str = r#"run timetable
+leg 0
+place lesson#1 slot=1 room=2 -2init/<Z>
+place lesson#2 slot=1 room=2 <Z>
+start <Z>
+best <Z>
+lesson#1 slot=1 room=2
+lesson#2 slot=1 room=2
+rule room_size 0 <Z>
+end
+"#;
 
 #[test]
 fn a_rule_may_stand_alone(rt: HostRuntime) -> Result<(), Fail> {
@@ -367,9 +430,9 @@ fn a_rule_may_stand_alone(rt: HostRuntime) -> Result<(), Fail> {
     let tests = one_test(alloc, Test::new(0, is_small))?;
     let weighers = one_weigher(alloc, Weigh::new(0, 10_000, seats))?;
     let domains = [room_size_alone(alloc, tests, weighers)?];
-    let mut asked = solved(alloc, joined(alloc, ROOM_TOO_SMALL)?);
+    let mut asked = solved(alloc, filled(alloc, ROOM_TOO_SMALL)?);
     let placed = run_one(&rt, alloc, &asked, &domains)?;
-    expect(&rt, &placed, PLACED_BY_SIZE, Status::Ok);
+    expect(&rt, &placed, &filled(alloc, PLACED_BY_SIZE)?, Status::Ok);
     asked.puts.push(0)?;
     let failed = run_one(&rt, alloc, &asked, &domains)?;
     expect(&rt, &failed, b"", Status::Write);

@@ -1,13 +1,12 @@
 -- An edit and then its inverse give the plan back.
 use Rattle.std.proofs.Common.{◌≡◌, ◌==◌, ◌&&◌, ◌∙◌, ◌<◌, ℕ, zero, suc, Bool, true, false, cond, eqb, Option, Some, None, is_some, IsTrue, List, [], ◌∷◌, length, set, map, get_or, slice_get, refl, sym, ap, subst, inl, inr, arith, All}
 use Rattle.std.specs.Option.{option_map_or, option_and_then}
-use Rattle.std.specs.List.{fold, list_all, AllZip}
+use Rattle.std.specs.List.{AllZip}
 use Rattle.std.specs.Ordering.{is_lt, nat_cmp, ordering_then}
-use Rattle.std.specs.declared.cmp.Ordering.{Ordering}
-use Rattle.std.specs.declared.cmp.Ordering.TheVariants.{Less, Equal, Greater}
+use Rattle.std.specs.declared.cmp.Ordering.TheVariants.{Equal}
 use Rattle.std.proofs.lemmas.Cmp.{tied_itself, nat_cmp_total}
 use Rattle.std.proofs.lemmas.Bool.{cases_eq}
-use Rattle.std.proofs.lemmas.List.{set-set, set_comm, set-get_or, get_or-set_same, get_or-set_other, length-set}
+use Rattle.std.proofs.lemmas.List.{set-set, set_comm, set-get_or, get_or-set_same, get_or-set_other}
 use Rattle.std.proofs.lemmas.List.Elements.{All-nil, All-cons, All-tail, All-weaker}
 use Rattle.std.proofs.lemmas.Option.{get_or_from_slice_get, slice_get_within}
 use Rattle.plan_facts.specs.declared.record.Raw.{Raw}
@@ -16,9 +15,9 @@ use Rattle.plan_facts.specs.PlanChanges.{with_class, with_record, with_value}
 use Rattle.plan_facts.proofs.Places.{same_eqb, increasing_head, increasing_tail, changed_none, found_holds}
 use Rattle.plan_facts.proofs.Sound.{class_at}
 use Rattle.plan_moves.specs.declared.edit.Set.{Set}
-use Rattle.plan_moves.specs.Edits.{set_order, AreInOrder, held_by, is_legal_set, is_legal, applied, set_back, inverse_of, TakesBack}
-use Rattle.plan_moves.proofs.Order.{Before}
-use Rattle.plan_moves.proofs.Shape.{set_var, changed_if, changed_id, both_left, both_right, legal_class, same_legal, applied_shape, SameShape, with_value_shape}
+use Rattle.plan_moves.specs.Edits.{set_order, AreInOrder, IsBefore, is_legal_set, is_legal, applied, set_back, inverse_of, TakesBack}
+use Rattle.plan_moves.proofs.Order.{in_order_head, in_order_tail}
+use Rattle.plan_moves.proofs.Shape.{set_var, changed_if, changed_id, both_left, both_right, legal_var, legal_range, legal_class, same_legal, applied_shape, with_value_shape}
 
 -- two sets have different variables
 abbrev pub Apart : Set → Set → Type 0
@@ -28,7 +27,7 @@ tied : (m n : ℕ) → m ≡ n → nat_cmp m n ≡ Equal
 tied m n e = ap (λ k. nat_cmp m k) (sym e) ∙ tied_itself nat_cmp_total m
 
 -- one that comes before another has another variable
-pub before_apart : (one other : Set) → Before one other → Apart one other
+pub before_apart : (one other : Set) → IsBefore one other → Apart one other
 unfolding set_order
 before_apart one other before class id var =
     let e : set_order one other ≡ Equal = ap (λ o. ordering_then o (ordering_then (nat_cmp one.id other.id) (nat_cmp one.var other.var))) (tied one.class other.class class) ∙ ap (λ o. ordering_then o (nat_cmp one.var other.var)) (tied one.id other.id id) ∙ tied one.var other.var var in
@@ -104,7 +103,7 @@ holds_at plan set (Some raw) is some =
     wide (slice_get raw.values set.var) refl some
 
 pub holds : (plan : PlanView) (set : Set) → is_legal_set plan set ≡ true → Holds plan set
-holds plan set legal = holds_at plan set (fact_of plan set.class set.id) refl (both_left _ _ legal)
+holds plan set legal = holds_at plan set (fact_of plan set.class set.id) refl (legal_var plan set legal)
 
 -- a set and then the one that takes it back give the plan back
 pub set_restored : (plan : PlanView) (set : Set) → IsPlan plan → is_legal_set plan set ≡ true → with_value (with_value plan set.class set.id set.var set.value) set.class set.id set.var (set_back plan set).value ≡ plan
@@ -189,9 +188,9 @@ restored plan (set ∷ sets) sound order legal =
     let good = both_left _ _ legal in
     let next = put_set plan set in
     ap (λ p. applied p (inverse_of plan sets))
-    (applied_swap next (length plan.classes) (set_back plan set) sets ((with_value_shape plan set.class set.id set.var set.value (legal_class plan set good)).count) (legal_class plan set good) (legal_classes plan sets (both_right _ _ legal)) (All-weaker (Before set) (Apart (set_back plan set)) (λ later h. before_apart set later h) sets order.0)
+    (applied_swap next (length plan.classes) (set_back plan set) sets ((with_value_shape plan set.class set.id set.var set.value (legal_class plan set good)).count) (legal_class plan set good) (legal_classes plan sets (both_right _ _ legal)) (All-weaker (IsBefore set) (Apart (set_back plan set)) (λ later h. before_apart set later h) sets (in_order_head set sets order))
     ∙ ap (λ p. applied p sets) (set_restored plan set sound good))
-    ∙ restored plan sets sound order.1 (both_right _ _ legal)
+    ∙ restored plan sets sound (in_order_tail set sets order) (both_right _ _ legal)
 
 -- what holds of two lists at each place
 zip_at : {A B : Type 0} (R : A → B → Type 0) (xs : List A) (ys : List B) (i : ℕ) (d : A) (e : B) → AllZip R xs ys → i < length xs → R (get_or xs i d) (get_or ys i e)
@@ -217,7 +216,7 @@ back_legal plan set sound legal =
     let fits = found_holds (IsRecordOf plan (class_of plan set.class)) (class_of plan set.class).facts set.id h.raw (class_at plan set.class sound (legal_class plan set legal)).records h.found in
     both_true _ _ (both_left _ _ legal)
     (ap (λ value. option_map_or (λ range. is_value_of plan range value) (slice_get ranges set.var) false) h.back
-    ∙ held_in_range plan ranges h.raw.values set.var set.value h.held (slice_get ranges set.var) fits.values h.at refl (both_right _ _ legal))
+    ∙ held_in_range plan ranges h.raw.values set.var set.value h.held (slice_get ranges set.var) fits.values h.at refl (legal_range plan set legal))
 
 inverse_legal : (plan : PlanView) (sets : List Set) → IsPlan plan → is_legal plan sets ≡ true → is_legal plan (inverse_of plan sets) ≡ true
 unfolding inverse_of
@@ -225,9 +224,13 @@ inverse_legal plan [] sound legal = refl
 inverse_legal plan (set ∷ sets) sound legal = both_true _ _ (back_legal plan set sound (both_left _ _ legal)) (inverse_legal plan sets sound (both_right _ _ legal))
 
 -- the inverse takes a legal edit back
-pub takes_back : (plan : PlanView) (sets : List Set) → IsPlan plan → AreInOrder sets → is_legal plan sets ≡ true → TakesBack plan sets (inverse_of plan sets)
-takes_back plan sets sound order legal =
+pub takes_back : (plan : PlanView) (sets : List Set) → (0 < length sets → IsPlan plan) → AreInOrder sets → is_legal plan sets ≡ true → TakesBack plan sets (inverse_of plan sets)
+unfolding applied inverse_of
+takes_back plan [] sound order legal = record { legal = refl; restored = refl }
+takes_back plan (set ∷ rest) sound order legal =
+    let sets : List Set = set ∷ rest in
+    let is : IsPlan plan = sound (omega arith) in
     record {
-      legal = same_legal plan (applied plan sets) (applied_shape plan sets legal) (inverse_of plan sets) ∙ inverse_legal plan sets sound legal;
-      restored = restored plan sets sound order legal;
+      legal = same_legal plan (applied plan sets) (applied_shape plan sets legal) (inverse_of plan sets) ∙ inverse_legal plan sets is legal;
+      restored = restored plan sets is order legal;
     }

@@ -1,15 +1,15 @@
 -- Setting variables adds and takes away no variable and no fact, so that what was legal stays legal.
-use Rattle.std.proofs.Common.{◌≡◌, ◌==◌, ◌&&◌, ◌∙◌, ◌<◌, ◌+◌, ℕ, zero, suc, Bool, true, false, cond, eqb, Option, Some, None, is_some, IsTrue, IsSomeAnd, List, [], ◌∷◌, length, set, map, take, get_or, slice_get, refl, sym, ap, subst, arith}
+use Rattle.std.proofs.Common.{◌≡◌, ◌==◌, ◌&&◌, ◌∙◌, ◌<◌, ◌+◌, ℕ, zero, suc, Bool, true, false, cond, not, eqb, Option, Some, None, is_some, IsSomeAnd, List, [], ◌∷◌, length, set, map, take, get_or, slice_get, refl, sym, ap, arith}
 use Rattle.std.specs.Option.{option_map, option_map_or, option_and_then}
 use Rattle.std.specs.List.{list_all, fold}
 use Rattle.std.proofs.lemmas.Option.{get_or_from_slice_get}
 use Rattle.std.proofs.lemmas.List.{length-set}
 use Rattle.plan_facts.specs.declared.record.Raw.{Raw}
-use Rattle.plan_facts.specs.Plan.{PlanView, ClassView, class_of, fact_of, record_with_id, is_live, is_value_of, range_of}
+use Rattle.plan_facts.specs.Plan.{PlanView, class_of, fact_of, record_with_id, is_live, is_pinned, is_value_of, range_of}
 use Rattle.plan_facts.specs.PlanChanges.{with_record, with_value}
 use Rattle.plan_facts.proofs.Changed.{each_class, class_there}
 use Rattle.plan_moves.specs.declared.edit.Set.{Set}
-use Rattle.plan_moves.specs.Edits.{held_by, is_legal_set, is_legal, applied}
+use Rattle.plan_moves.specs.Edits.{held_by, is_movable_var, is_in_range, is_legal_set, is_legal, applied}
 
 -- a record with one variable set
 abbrev pub set_var : ℕ → Option ℕ → Raw → Raw
@@ -44,15 +44,23 @@ live_changed : (found : Option Raw) (change : Raw → Raw) → is_some (option_m
 live_changed None change = refl
 live_changed (Some raw) change = refl
 
--- two plans have the same variables, live facts and value classes
+pinned_changed : (found : Option Raw) (change : Raw → Raw) → ((r : Raw) → (change r).pinned ≡ r.pinned) → option_map_or (λ (raw : Raw). raw.pinned) (option_map change found) false ≡ option_map_or (λ (raw : Raw). raw.pinned) found false
+pinned_changed None change same = refl
+pinned_changed (Some raw) change same = same raw
+
+changed_pinned : (raw : Raw) (id var : ℕ) (value : Option ℕ) → (changed_if id (set_var var value) raw).pinned ≡ raw.pinned
+changed_pinned raw id var value = elim (eqb raw.id id) as (λ b. (cond b (set_var var value raw) raw).pinned ≡ raw.pinned) [ true ↦ refl | false ↦ refl ]
+
+-- two plans have the same variables, live and pinned facts, and value classes
 pub record SameShape (plan other : PlanView) : Type 0 where
   pub count : length other.classes ≡ length plan.classes
   pub held : (class id var : ℕ) → is_some (held_by other class id var) ≡ is_some (held_by plan class id var)
   pub live : (class id : ℕ) → is_live other class id ≡ is_live plan class id
+  pub pinned : (class id : ℕ) → is_pinned other class id ≡ is_pinned plan class id
   pub ranges : (class : ℕ) → (class_of other class).ranges ≡ (class_of plan class).ranges
 
 pub same_itself : (plan : PlanView) → SameShape plan plan
-same_itself plan = record { count = refl; held = λ class id var. refl; live = λ class id. refl; ranges = λ class. refl }
+same_itself plan = record { count = refl; held = λ class id var. refl; live = λ class id. refl; pinned = λ class id. refl; ranges = λ class. refl }
 
 pub same_after : (one two three : PlanView) → SameShape one two → SameShape two three → SameShape one three
 same_after one two three h k =
@@ -60,6 +68,7 @@ same_after one two three h k =
       count = k.count ∙ h.count;
       held = λ class id var. k.held class id var ∙ h.held class id var;
       live = λ class id. k.live class id ∙ h.live class id;
+      pinned = λ class id. k.pinned class id ∙ h.pinned class id;
       ranges = λ class. k.ranges class ∙ h.ranges class;
     }
 
@@ -74,6 +83,7 @@ with_value_shape plan class id var value within =
       count = length-set plan.classes class view;
       held = λ c i v. each_class (λ n w. is_some (option_and_then (λ raw. slice_get raw.values v) (record_with_id i w.facts)) ≡ is_some (held_by plan n i v)) plan class view within (ap (λ o. is_some (option_and_then (λ (raw : Raw). slice_get raw.values v) o)) (found_changed facts id i change (λ r. refl)) ∙ held_changed (record_with_id i facts) id var v value) (λ n. refl) c;
       live = λ c i. each_class (λ n w. is_some (record_with_id i w.facts) ≡ is_live plan n i) plan class view within (ap (λ (o : Option Raw). is_some o) (found_changed facts id i change (λ r. refl)) ∙ live_changed (record_with_id i facts) (changed_if id change)) (λ n. refl) c;
+      pinned = λ c i. each_class (λ n w. option_map_or (λ (raw : Raw). raw.pinned) (record_with_id i w.facts) false ≡ is_pinned plan n i) plan class view within (ap (λ (o : Option Raw). option_map_or (λ (raw : Raw). raw.pinned) o false) (found_changed facts id i change (λ r. refl)) ∙ pinned_changed (record_with_id i facts) (changed_if id change) (λ r. changed_pinned r id var value)) (λ n. refl) c;
       ranges = λ c. each_class (λ n w. w.ranges ≡ (class_of plan n).ranges) plan class view within refl (λ n. refl) c;
     }
 
@@ -85,12 +95,21 @@ same_in_range : (plan other : PlanView) → SameShape plan other → (found : Op
 same_in_range plan other same None value = refl
 same_in_range plan other same (Some range) value = same_value plan other same range value
 
+same_range : (plan other : PlanView) → SameShape plan other → (set : Set) → is_in_range other set ≡ is_in_range plan set
+same_range plan other same set =
+    ap (λ (ranges : List ℕ). option_map_or (λ range. is_value_of other range set.value) (slice_get ranges set.var) false) (same.ranges set.class)
+    ∙ same_in_range plan other same (slice_get (class_of plan set.class).ranges set.var) set.value
+
+same_movable : (plan other : PlanView) → SameShape plan other → (set : Set) → is_movable_var other set ≡ is_movable_var plan set
+same_movable plan other same set =
+    ap (λ b. b && not (is_pinned other set.class set.id)) (same.held set.class set.id set.var)
+    ∙ ap (λ b. is_some (held_by plan set.class set.id set.var) && not b) (same.pinned set.class set.id)
+
 -- one set is legal in both or neither
 pub same_legal_set : (plan other : PlanView) → SameShape plan other → (set : Set) → is_legal_set other set ≡ is_legal_set plan set
 same_legal_set plan other same set =
-    ap (λ b. b && option_map_or (λ range. is_value_of other range set.value) (slice_get (class_of other set.class).ranges set.var) false) (same.held set.class set.id set.var)
-    ∙ ap (λ (ranges : List ℕ). is_some (held_by plan set.class set.id set.var) && option_map_or (λ range. is_value_of other range set.value) (slice_get ranges set.var) false) (same.ranges set.class)
-    ∙ ap (λ b. is_some (held_by plan set.class set.id set.var) && b) (same_in_range plan other same (slice_get (class_of plan set.class).ranges set.var) set.value)
+    ap (λ b. b && is_in_range other set) (same_movable plan other same set)
+    ∙ ap (λ b. is_movable_var plan set && b) (same_range plan other same set)
 
 -- an edit is legal in both or neither
 pub same_legal : (plan other : PlanView) → SameShape plan other → (sets : List Set) → is_legal other sets ≡ is_legal plan sets
@@ -114,9 +133,16 @@ var_there : (found : Option Raw) (var : ℕ) → is_some (option_and_then (λ ra
 var_there None var h = absurd (let e : false ≡ true = h in cc)
 var_there (Some raw) var h = in_values raw.values var h
 
+-- the parts of a legal set: its variable is there, and its value may be set
+pub legal_var : (plan : PlanView) (set : Set) → is_legal_set plan set ≡ true → is_some (held_by plan set.class set.id set.var) ≡ true
+legal_var plan set legal = both_left _ _ (both_left _ _ legal)
+
+pub legal_range : (plan : PlanView) (set : Set) → is_legal_set plan set ≡ true → is_in_range plan set ≡ true
+legal_range plan set legal = both_right _ _ legal
+
 -- the variable of a legal set is there
 pub legal_there : (plan : PlanView) (set : Set) → is_legal_set plan set ≡ true → IsSomeAnd (fact_of plan set.class set.id) (λ raw. set.var < length raw.values)
-legal_there plan set legal = var_there (fact_of plan set.class set.id) set.var (both_left _ _ legal)
+legal_there plan set legal = var_there (fact_of plan set.class set.id) set.var (legal_var plan set legal)
 
 pub legal_class : (plan : PlanView) (set : Set) → is_legal_set plan set ≡ true → set.class < length plan.classes
 legal_class plan set legal = class_there plan set.class set.id (λ raw. set.var < length raw.values) (legal_there plan set legal)
@@ -127,7 +153,7 @@ value_in_range plan ranges var value (Some range) is h = ap (λ n. is_value_of p
 
 -- the value of a legal set is null or live in the variable's range
 pub legal_value : (plan : PlanView) (set : Set) → is_legal_set plan set ≡ true → is_value_of plan (range_of plan set.class set.var) set.value ≡ true
-legal_value plan set legal = value_in_range plan (class_of plan set.class).ranges set.var set.value (slice_get (class_of plan set.class).ranges set.var) refl (both_right _ _ legal)
+legal_value plan set legal = value_in_range plan (class_of plan set.class).ranges set.var set.value (slice_get (class_of plan set.class).ranges set.var) refl (legal_range plan set legal)
 
 -- an edit keeps the shape
 pub applied_shape : (plan : PlanView) (sets : List Set) → is_legal plan sets ≡ true → SameShape plan (applied plan sets)

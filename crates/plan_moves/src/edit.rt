@@ -1,7 +1,7 @@
-ghost use Rattle.std.specs.Prelude.{◌≡◌, ◌<◌, ◌≤◌, ◌-◌, All, IsTrue, true, false, length, drop, slice_index_or, option_copied, ◌==◌, ◌&&◌};
+ghost use Rattle.std.specs.Prelude.{◌≡◌, ◌<◌, ◌≤◌, ◌-◌, All, true, false, length, drop, slice_index_or, option_copied};
 ghost use Rattle.std.specs.Ordering.{is_lt, is_eq};
 ghost use Rattle.std.specs.Option.{option_map_or};
-ghost use Rattle.plan_moves.specs.Edits.{set_order, touch_of};
+ghost use Rattle.plan_moves.specs.Edits.{set_order, entity_of, is_same, IsBefore};
 
 use crate::legal;
 use plan_facts::{List, Memory, Plan, Schema};
@@ -57,7 +57,7 @@ fn order_of(one: &Set, other: &Set) -> Ordering
 // The place from which on all sets come after this one. Sets that come in order are placed at once.
 fn place_for(sets: &[Set], set: &Set) -> usize
     ensures within { result ≤ length sets.now }
-    ensures after { All (λ later. IsTrue (is_lt (set_order set.now later))) (drop result sets.now) }
+    ensures after { All (IsBefore set.now) (drop result sets.now) }
     ensures before { 0 < result → is_lt (set_order set.now (slice_index_or sets.now (result - 1) set.now)) ≡ false }
 {
     let mut place = sets.len();
@@ -70,15 +70,15 @@ fn place_for(sets: &[Set], set: &Set) -> usize
 // Whether the variable stands just before this place.
 fn is_just_before(sets: &[Set], set: &Set, place: usize) -> bool
     requires { place ≤ length sets.now }
-    ensures there { result ≡ true → (0 < place) × (is_eq (set_order (slice_index_or sets.now (place - 1) set.now) set.now) ≡ true) }
-    ensures free { result ≡ false → 0 < place → is_eq (set_order (slice_index_or sets.now (place - 1) set.now) set.now) ≡ false }
+    ensures some { result ≡ true → 0 < place }
+    ensures answer { 0 < place → result ≡ is_eq (set_order (slice_index_or sets.now (place - 1) set.now) set.now) }
 {
     place > 0 && order_of(&sets[place - 1], set).is_eq()
 }
 
 // The entity of a set.
 fn entity_of(set: &Set) -> Touch
-    ensures { result ≡ touch_of set.now }
+    ensures { result ≡ entity_of set.now }
 {
     Touch {
         class: set.class,
@@ -88,7 +88,7 @@ fn entity_of(set: &Set) -> Touch
 
 // Whether a set is there and has this entity.
 fn is_of(set: Option<&Set>, touch: Touch) -> bool
-    ensures { result ≡ option_map_or (λ other. (touch.class == other.class) && (touch.id == other.id)) (option_copied set.entry) false }
+    ensures { result ≡ option_map_or (λ other. is_same touch (entity_of other)) (option_copied set.entry) false }
 {
     match set {
         Some(set) => touch.class == set.class && touch.id == set.id,
@@ -97,9 +97,11 @@ fn is_of(set: Option<&Set>, touch: Touch) -> bool
 }
 
 impl Edit {
-    ghost use Rattle.std.specs.Prelude.{◌≡◌, [], not, if◌then◌else◌, IfOk, OnErr};
-    ghost use Rattle.plan_moves.specs.Edits.{is_set_in, with_set, is_legal, is_doable, applied, inverse_of, TakesBack, touched_by};
-    ghost use Rattle.plan_facts.specs.Plan.{IsPlan};
+    ghost use Rattle.std.specs.Prelude.{◌≡◌, [], not, if◌then◌else◌, IfOk, OnOk, OnErr};
+    ghost use Rattle.std.specs.Prelude.{IsTrue, fold};
+    ghost use Rattle.plan_moves.specs.Edits.{AreInOrder, is_set_in, with_set, with_new, edit_of};
+    ghost use Rattle.plan_moves.specs.Edits.{is_legal, is_doable, applied, inverse_of, TakesBack};
+    ghost use Rattle.plan_moves.specs.Edits.{touched_by, AreTouchesInOrder};
 
     /// The edit that changes nothing.
     pub fn new(alloc: Global) -> Edit
@@ -110,9 +112,10 @@ impl Edit {
         }
     }
 
-    /// The variables and their values, in the order of class, id and variable.
+    /// The variables and their values, in the order of class, id and variable, each variable once.
     pub fn sets(&self) -> &[Set]
-        ensures { result.now ≡ self.now }
+        ensures sets { result.now ≡ self.now }
+        ensures order { AreInOrder self.now }
     {
         &self.sets
     }
@@ -138,6 +141,41 @@ impl Edit {
         Ok(true)
     }
 
+    /// Adds a variable with its value, unless that variable is in the edit already.
+    #[tactic(auto, using(crate::proofs::Filled::put_new))]
+    pub fn put_new(&mut self, set: Set) -> Result<(), Memory>
+        ensures ok { OnOk result (self.new ≡ with_new self.old set) }
+        ensures err { OnErr result (self.new ≡ self.old) }
+    {
+        let _ = self.put(set)?;
+        Ok(())
+    }
+
+    /// Adds these sets one after the other, each unless its variable is in the edit already.
+    fn put_all(&mut self, sets: &[Set]) -> Result<(), Memory>
+        ensures { OnOk result (self.new ≡ fold with_new self.old sets.now) }
+    {
+        for set in sets {
+            self.put_new(*set)?;
+        }
+        Ok(())
+    }
+
+    /// Sets these variables alone; of sets with one variable the first counts. At want of memory nothing is set.
+    #[tactic(auto, unfolding(crate::specs::Edits::edit_of), using(crate::proofs::Filled::order_kept))]
+    pub fn fill(&mut self, sets: &[Set]) -> Result<(), Memory>
+        ensures ok { OnOk result (self.new ≡ edit_of sets.now) }
+        ensures in_order { OnOk result (AreInOrder sets.now → self.new ≡ sets.now) }
+        ensures err { OnErr result (self.new ≡ []) }
+    {
+        self.clear();
+        let filled = self.put_all(sets);
+        if filled.is_err() {
+            self.clear();
+        }
+        filled
+    }
+
     /// Whether the edit is legal and changes some variable.
     pub fn doable(&self, _: &Schema, plan: &Plan) -> bool
         ensures { result ≡ is_doable plan.now self.now }
@@ -159,7 +197,7 @@ impl Edit {
     pub fn inverse(&self, plan: &Plan) -> Result<Edit, Memory>
         requires { IsTrue (is_legal plan.now self.now) }
         ensures back { IfOk result (λ back. back ≡ inverse_of plan.now self.now) }
-        ensures takes_back { IsPlan plan.now → IfOk result (TakesBack plan.now self.now) }
+        ensures takes_back { IfOk result (TakesBack plan.now self.now) }
     {
         let mut sets = Vec::with_capacity(*self.sets.allocator(), self.sets.len())?;
         for set in &self.sets {
@@ -173,7 +211,8 @@ impl Edit {
 
     /// The entities that the edit sets variables of, each once, in the order of class and id.
     pub fn touched(&self) -> Result<List<Touch>, Memory>
-        ensures { IfOk result (λ touches. touches ≡ touched_by self.now) }
+        ensures touched { IfOk result (λ touches. touches ≡ touched_by self.now) }
+        ensures order { IfOk result AreTouchesInOrder }
     {
         let mut touches = List::new(*self.sets.allocator());
         for place in 0..self.sets.len() {

@@ -1,4 +1,4 @@
-use crate::{Edit, Set, Touch};
+use crate::{Edit, Set, Touch, choice_at, choice_count};
 use plan_facts::{ClassDef, FieldDef, Kind, List, Memory, Plan, Raw, Schema, Text, VarDef};
 use std::alloc::Global;
 use std::test::Fail;
@@ -12,7 +12,7 @@ const ROOM: u8 = 2;
 /// A class to be made: its name, and its fields and variables, each variable with the class of its values.
 type ClassSketch = (&'static str, &'static [(&'static str, Option<u8>)]);
 
-/// Lessons, each with a slot and a room.
+/// Lessons, each with a slot and a room, which may stay null.
 const CLASSES: &[ClassSketch] = &[
     (
         "lesson",
@@ -26,7 +26,11 @@ const CLASSES: &[ClassSketch] = &[
 fn add_member(class: &mut ClassDef, name: Text, values: Option<u8>) -> Result<(), Memory> {
     let kind = Kind::Number;
     match values {
-        Some(values) => class.vars.push(VarDef { name, values }),
+        Some(values) => class.vars.push(VarDef {
+            name,
+            values,
+            nullable: values == ROOM,
+        }),
         None => class.fields.push(FieldDef { name, kind }),
     }
 }
@@ -55,9 +59,17 @@ fn lessons(alloc: Global) -> Result<Schema, Fail> {
 /// A record to be made: its id and values.
 type Sketch = (u32, &'static [Option<u32>]);
 
-/// Lesson 1 with slot 1 and room 1, lesson 2 with slot 2 and no room; slots 1, 2 and 5; rooms 1 and 2.
+/// The id of a lesson that is pinned wherever it stands.
+const PINNED: u32 = 4;
+
+/// Lesson 1 with slot 1 and room 1, lesson 2 with slot 2 and no room, the pinned lesson with slot 2 and room 2; slots 1,
+/// 2 and 5; rooms 1 and 2.
 const TIMETABLE: &[&[Sketch]] = &[
-    &[(1, &[Some(1), Some(1)]), (2, &[Some(2), None])],
+    &[
+        (1, &[Some(1), Some(1)]),
+        (2, &[Some(2), None]),
+        (PINNED, &[Some(2), Some(2)]),
+    ],
     &[(1, &[]), (2, &[]), (5, &[])],
     &[(1, &[]), (2, &[])],
 ];
@@ -67,6 +79,7 @@ fn raw_of(alloc: Global, sketch: &Sketch) -> Result<Raw, Memory> {
         id: sketch.0,
         fields: List::from_slice(alloc, &[0])?,
         values: List::from_slice(alloc, sketch.1)?,
+        pinned: sketch.0 == PINNED,
     })
 }
 
@@ -78,16 +91,16 @@ fn raws_of(alloc: Global, sketches: &[Sketch]) -> Result<List<Raw>, Memory> {
     Ok(raws)
 }
 
-fn lists(alloc: Global) -> Result<List<List<Raw>>, Memory> {
+fn lists(alloc: Global, classes: &[&[Sketch]]) -> Result<List<List<Raw>>, Memory> {
     let mut lists = List::new(alloc);
-    for sketches in TIMETABLE {
+    for sketches in classes {
         lists.push(raws_of(alloc, sketches)?)?;
     }
     Ok(lists)
 }
 
-fn timetable(alloc: Global, schema: &Schema) -> Result<Plan, Fail> {
-    Ok(Plan::of(alloc, schema, lists(alloc)?)?)
+fn timetable(alloc: Global, schema: &Schema, classes: &[&[Sketch]]) -> Result<Plan, Fail> {
+    Ok(Plan::of(alloc, schema, lists(alloc, classes)?)?)
 }
 
 /// A variable of a fact and the value that it is to get: the class and the id of the fact, and the variable.
@@ -206,6 +219,16 @@ const EDITS: &[(&str, &[Change], bool)] = &[
         false,
     ),
     ("a variable of a slot", &[(SLOT, 1, 0, None)], false),
+    (
+        "another slot for a pinned lesson",
+        &[(LESSON, PINNED, 0, Some(5))],
+        false,
+    ),
+    (
+        "a pinned lesson among others",
+        &[(LESSON, 1, 0, Some(5)), (LESSON, PINNED, 1, None)],
+        false,
+    ),
 ];
 
 /// Whether the plan takes an edit of these changes; none where they set a variable twice.
@@ -220,7 +243,7 @@ fn is_doable(alloc: Global, schema: &Schema, plan: &Plan, changes: &[Change]) ->
 #[test]
 fn tells_which_edits_are_doable(rt: HostRuntime) -> Result<(), Fail> {
     let schema = lessons(rt.alloc())?;
-    let plan = timetable(rt.alloc(), &schema)?;
+    let plan = timetable(rt.alloc(), &schema, TIMETABLE)?;
     for (name, changes, doable) in EDITS {
         let answer = is_doable(rt.alloc(), &schema, &plan, changes);
         assert!(rt; answer == Some(*doable), "{name}");
@@ -252,7 +275,7 @@ const BACK: &[Change] = &[
 #[test]
 fn an_edit_and_its_inverse_give_the_plan_back(rt: HostRuntime) -> Result<(), Fail> {
     let schema = lessons(rt.alloc())?;
-    let mut plan = timetable(rt.alloc(), &schema)?;
+    let mut plan = timetable(rt.alloc(), &schema, TIMETABLE)?;
     let mut edit = Edit::new(rt.alloc());
     assert!(rt; put_all(&mut edit, CHANGES));
     assert!(rt; edit.doable(&schema, &plan));
@@ -266,6 +289,92 @@ fn an_edit_and_its_inverse_give_the_plan_back(rt: HostRuntime) -> Result<(), Fai
     back.apply(&mut plan);
     assert!(rt; holds(&plan, 1, &[Some(1), Some(1)]));
     assert!(rt; holds(&plan, 2, &[Some(2), None]));
-    assert!(rt; plan.unplaced() == 1);
+    assert!(rt; plan.unplaced() == 0);
+    Ok(())
+}
+
+/// Two lessons with slot 1 and room 1; slots 1 and 2; room 1.
+const TWINS: &[&[Sketch]] = &[
+    &[(1, &[Some(1), Some(1)]), (2, &[Some(1), Some(1)])],
+    &[(1, &[]), (2, &[])],
+    &[(1, &[])],
+];
+
+/// Each lesson gets the other's slot and room.
+const SWAP: &[Change] = &[
+    (LESSON, 1, 0, Some(1)),
+    (LESSON, 1, 1, Some(1)),
+    (LESSON, 2, 0, Some(1)),
+    (LESSON, 2, 1, Some(1)),
+];
+
+#[test]
+fn a_swap_of_equal_values_is_not_doable(rt: HostRuntime) -> Result<(), Fail> {
+    let schema = lessons(rt.alloc())?;
+    let plan = timetable(rt.alloc(), &schema, TWINS)?;
+    let mut edit = Edit::new(rt.alloc());
+    assert!(rt; put_all(&mut edit, SWAP));
+    assert!(rt; edit.put(set_of(&(LESSON, 1, 0, Some(2)))) == Ok(false));
+    assert!(rt; has_sets(&edit, SWAP));
+    assert!(rt; !edit.doable(&schema, &plan));
+    Ok(())
+}
+
+#[test]
+fn a_move_to_another_slot_is_taken_back(rt: HostRuntime) -> Result<(), Fail> {
+    let schema = lessons(rt.alloc())?;
+    let plan = timetable(rt.alloc(), &schema, TWINS)?;
+    let mut edit = Edit::new(rt.alloc());
+    assert!(rt; put_all(&mut edit, &[(LESSON, 1, 0, Some(2))]));
+    assert!(rt; edit.doable(&schema, &plan));
+    assert!(rt; has_sets(&edit.inverse(&plan)?, &[(LESSON, 1, 0, Some(1))]));
+    let first = Touch {
+        class: LESSON,
+        id: 1,
+    };
+    assert!(rt; edit.touched()?.as_slice() == [first].as_slice());
+    Ok(())
+}
+
+/// Sets that are out of order, two of them with one variable.
+const FILLED: &[Change] = &[
+    (LESSON, 2, 1, Some(7)),
+    (LESSON, 1, 0, None),
+    (LESSON, 2, 1, Some(8)),
+    (LESSON, 1, 1, Some(3)),
+];
+
+#[test]
+fn an_edit_is_filled_anew(rt: HostRuntime) -> Result<(), Fail> {
+    let mut edit = Edit::new(rt.alloc());
+    edit.put_new(set_of(&(ROOM, 1, 0, None)))?;
+    let sets = [
+        set_of(&FILLED[0]),
+        set_of(&FILLED[1]),
+        set_of(&FILLED[2]),
+        set_of(&FILLED[3]),
+    ];
+    edit.fill(&sets)?;
+    let order = [
+        (LESSON, 1, 0, None),
+        (LESSON, 1, 1, Some(3)),
+        (LESSON, 2, 1, Some(7)),
+    ];
+    assert!(rt; has_sets(&edit, &order));
+    edit.clear();
+    assert!(rt; edit.sets().is_empty());
+    Ok(())
+}
+
+#[test]
+fn null_is_the_last_choice_of_a_room(rt: HostRuntime) -> Result<(), Fail> {
+    let schema = lessons(rt.alloc())?;
+    let plan = timetable(rt.alloc(), &schema, TIMETABLE)?;
+    assert_eq!(rt; plan.ranges(LESSON).len(), 2);
+    assert_eq!(rt; choice_count(&plan, LESSON, 0), 3);
+    assert_eq!(rt; choice_at(&plan, LESSON, 0, 2), Some(5));
+    assert_eq!(rt; choice_count(&plan, LESSON, 1), 3);
+    assert_eq!(rt; choice_at(&plan, LESSON, 1, 1), Some(2));
+    assert_eq!(rt; choice_at(&plan, LESSON, 1, 2), None);
     Ok(())
 }

@@ -1,2 +1,4 @@
+pub mod Edge
 pub mod InMemory
 pub mod Outside
+pub mod Streams

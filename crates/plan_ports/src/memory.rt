@@ -1,7 +1,7 @@
 // A source and a sink in memory, which fail at the calls that they are told.
-ghost use Rattle.std.specs.Prelude.{◌≡◌, ◌≤◌, ◌<◌, ◌↔◌, [], ◌++◌, true, length, take, drop, min, IsTrue, IfOk, OnErr, IsOk, IsErr, IsErrOf};
-ghost use Rattle.plan_ports.specs.InMemory.{SourceView, SinkView, fresh_calls, fails_next, never_fails, given, after_take, after_put};
-ghost use Rattle.plan_ports.specs.Outside.{Rose, Moves};
+ghost use Rattle.std.specs.Prelude.{◌≡◌, ◌≤◌, ◌↔◌, [], true, length, take, drop, min, IsTrue, IfOk, OnErr, IsOk, IsErr, IsErrOf};
+ghost use Rattle.plan_ports.specs.InMemory.{SourceView, SinkView, fresh_calls, fails_next, never_fails, given, after_take, after_put, sink_state, source_state};
+ghost use Rattle.plan_ports.specs.Outside.{CountsStall, LaterSink, LaterSource, Moves, SinkFails, SourceFails, Wrote, WroteNothing};
 
 use crate::calls::Calls;
 use crate::{Failed, PortFault, Sink, Source};
@@ -49,26 +49,20 @@ impl MemSource {
 }
 
 impl Source for MemSource {
-    ghost tells = { λ _. true };
-
-    ghost left = { λ s. s.left };
-
-    ghost faults = { λ s. s.calls.faults };
-
-    ghost is_sound = { λ s. never_fails s.calls };
+    ghost state = { source_state };
 
     // The trait's clauses, then what only this source says.
     fn take(&mut self, buf: &mut [u8]) -> Result<usize, Failed>
         ensures within { IfOk result (λ n. n ≤ length buf.old) }
-        ensures moves { IfOk result (λ n. Moves n self.old.left self.new.left buf.old buf.new) }
-        ensures failed { OnErr result (Rose self.old.calls.faults self.new.calls.faults) }
-        ensures sound { never_fails self.old.calls ≡ true → IsOk result × (self.new.calls.faults ≡ self.old.calls.faults) }
-        ensures later { self.old.calls.faults ≤ self.new.calls.faults }
-        ensures same_sound { never_fails self.new.calls ≡ never_fails self.old.calls }
+        ensures moves { IfOk result (λ n. Moves n (source_state self.old) (source_state self.new) buf.old buf.new) }
+        ensures failed { OnErr result (SourceFails (source_state self.old) (source_state self.new)) }
+        ensures sound { never_fails self.old.calls ≡ true → IsOk result }
+        ensures later { LaterSource (source_state self.old) (source_state self.new) }
 
         // It fails exactly at the calls that it was told, and then gives nothing.
         ensures fails { IsErr result ↔ IsTrue (fails_next self.old.calls) }
-        ensures nothing { OnErr result ((self.new ≡ after_take 0 self.old) × (buf.new ≡ buf.old)) }
+        ensures after_err { OnErr result (self.new ≡ after_take 0 self.old) }
+        ensures nothing { OnErr result (buf.new ≡ buf.old) }
         ensures gives { IfOk result (λ n. n ≡ given self.old (length buf.old)) }
         ensures after { IfOk result (λ n. self.new ≡ after_take n self.old) }
     {
@@ -122,20 +116,16 @@ impl MemSink {
 }
 
 impl Sink for MemSink {
-    ghost tells = { λ _. true };
-
-    ghost written = { λ s. s.written };
-
-    ghost faults = { λ s. s.calls.faults };
+    ghost state = { sink_state };
 
     // The trait's clauses, then what only this sink says.
     fn put(&mut self, piece: &[u8]) -> Result<usize, PortFault>
         ensures within { IfOk result (λ n. n ≤ length piece.now) }
-        ensures appends { IfOk result (λ n. self.new.written ≡ self.old.written ++ take n piece.now) }
-        ensures nothing { OnErr result (self.new.written ≡ self.old.written) }
-        ensures failed { IsErrOf result PortFault.Failed → Rose self.old.calls.faults self.new.calls.faults }
-        ensures zero { IfOk result (λ n. n ≡ 0 → 0 < length piece.now → Rose self.old.calls.faults self.new.calls.faults) }
-        ensures later { self.old.calls.faults ≤ self.new.calls.faults }
+        ensures appends { IfOk result (λ n. Wrote (take n piece.now) (sink_state self.old) (sink_state self.new)) }
+        ensures nothing { OnErr result (WroteNothing (sink_state self.old) (sink_state self.new)) }
+        ensures failed { IsErrOf result PortFault.Failed → SinkFails (sink_state self.old) (sink_state self.new) }
+        ensures stalls { IfOk result (λ n. CountsStall n piece.now (sink_state self.old) (sink_state self.new)) }
+        ensures later { LaterSink (sink_state self.old) (sink_state self.new) }
 
         // It fails exactly at the calls that it was told.
         ensures fails { IsErrOf result PortFault.Failed ↔ IsTrue (fails_next self.old.calls) }

@@ -1,7 +1,7 @@
 // Files in memory.
-ghost use Rattle.std.specs.Prelude.{◌≡◌, ◌≤◌, ◌||◌, ◌↔◌, true, false, option_map, option_copied, Some, IsTrue, is_none, IfSome, IfOk, IsErrOf};
-ghost use Rattle.plan_ports.specs.InMemory.{ShelfView, EachGives, fresh_calls, first_named, bytes_under, is_sound_name, never_fails, fails_next, after_open, after_close, opened};
-ghost use Rattle.plan_ports.specs.Outside.{Rose};
+ghost use Rattle.std.specs.Prelude.{◌≡◌, ◌≤◌, ◌+◌, ◌↔◌, option_copied, Some, IsTrue, IfSome, IfOk, OnOk, OnErr, IsErrOf};
+ghost use Rattle.plan_ports.specs.InMemory.{ShelfView, EachGives, fresh_calls, first_named, after_open, after_close, open_fails, opened_under, shelf_state, source_state};
+ghost use Rattle.plan_ports.specs.Outside.{FailsAt, IsOpened, LaterShelf};
 
 use crate::calls::Calls;
 use crate::memory::MemSource;
@@ -25,12 +25,13 @@ pub struct MemShelf {
     alloc: Global,
     files: Vec<MemFile>,
     opens: Calls,
+    lent: u64,
 }
 
 impl Model for MemShelf {
     ghost Value = { ShelfView };
 
-    ghost view = { λ s. record { files = s.files.items; opens = s.opens } };
+    ghost view = { λ s. record { files = s.files.items; opens = s.opens; lent = s.lent } };
 
     ghost invariant = { λ s. EachGives s.files.items };
 }
@@ -39,40 +40,42 @@ impl MemShelf {
     /// A shelf of these files. The opens whose numbers, from 0, stand in `fail` fail.
     pub fn new(alloc: Global, files: Vec<MemFile>, fail: Vec<u32>) -> MemShelf
         requires { EachGives files.items }
-        ensures { result ≡ record { files = files.items; opens = fresh_calls fail.items } }
+        ensures { result ≡ record { files = files.items; opens = fresh_calls fail.items; lent = 0 } }
     {
         MemShelf {
             alloc,
             files,
             opens: Calls::new(fail),
+            lent: 0,
         }
+    }
+
+    /// How many files were lent that weren't given back.
+    pub fn lent(&self) -> u64
+        ensures { result ≡ self.now.lent }
+    {
+        self.lent
     }
 }
 
 impl Shelf for MemShelf {
     type File = MemSource;
 
-    ghost tells = { λ _. true };
-
-    ghost bytes_of = { λ s name. bytes_under name s };
-
-    ghost is_sound = { λ s name. is_sound_name name s };
-
-    ghost faults = { λ s. s.opens.faults };
+    ghost state = { shelf_state };
 
     // The trait's clauses, then what only this shelf says.
     fn open(&mut self, name: &[u8]) -> Result<MemSource, PortFault>
-        ensures bytes { IfOk result (λ f. bytes_under name.now self.old ≡ Some f.left) }
-        ensures fresh { IfOk result (λ f. f.calls.faults ≡ 0) }
+        ensures opens { IfOk result (λ file. IsOpened name.now (shelf_state self.old) (source_state file)) }
         ensures failed { IsErrOf result PortFault.Failed →
-            Rose self.old.opens.faults self.new.opens.faults × (is_sound_name name.now self.old ≡ false) }
-        ensures sound { IfOk result (λ f. is_sound_name name.now self.old ≡ true → never_fails f.calls ≡ true) }
-        ensures later { self.old.opens.faults ≤ self.new.opens.faults }
+            FailsAt name.now (shelf_state self.old) (shelf_state self.new) }
+        ensures lent { OnOk result (self.new.lent ≡ self.old.lent + 1) }
+        ensures kept { OnErr result (self.new.lent ≡ self.old.lent) }
+        ensures later { LaterShelf (shelf_state self.old) (shelf_state self.new) }
 
         // It fails exactly at the opens that it was told and at unknown names.
-        ensures fails { IsErrOf result PortFault.Failed ↔ IsTrue (fails_next self.old.opens || is_none (first_named name.now self.old.files)) }
-        ensures opens { IfOk result (λ f. option_map opened (first_named name.now self.old.files) ≡ Some f) }
-        ensures after { self.new ≡ after_open name.now self.old }
+        ensures fails { IsErrOf result PortFault.Failed ↔ IsTrue (open_fails name.now self.old) }
+        ensures copies { IfOk result (λ file. opened_under name.now self.old ≡ Some file) }
+        ensures after { self.new ≡ after_open name.now self.new.lent self.old }
     {
         if self.opens.next_fails() {
             return Err(PortFault::Failed);
@@ -81,14 +84,20 @@ impl Shelf for MemShelf {
             self.opens.note_fault();
             return Err(PortFault::Failed);
         };
+        let Some(lent) = self.lent.checked_add(1) else {
+            return Err(PortFault::Memory);
+        };
         let bytes = file.bytes.to_vec(self.alloc)?;
         let fail = file.fail.to_vec(self.alloc)?;
-        Ok(MemSource::new(bytes, file.most, fail))
+        let most = file.most;
+        self.lent = lent;
+        Ok(MemSource::new(bytes, most, fail))
     }
 
     fn close(&mut self, file: MemSource)
         ensures { self.new ≡ after_close file.calls.faults self.old }
     {
+        self.lent = self.lent.saturating_sub(1);
         if file.faults() > 0 {
             self.opens.note_fault();
         }

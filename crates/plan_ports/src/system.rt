@@ -1,7 +1,9 @@
-// Real files, standard input and standard output. They tell no bytes; contracts see of each only how
-// many faults it counted.
-ghost use Rattle.std.specs.Prelude.{◌≡◌, ◌≤◌, ◌<◌, ℕ, [], None, false, length, IfOk, OnOk, OnErr, IfErr};
+// Real files, standard input and standard output. They tell no bytes; contracts see of each only whether it is
+// standard input, how many files were lent, and how many faults were counted.
+ghost use Rattle.std.specs.Prelude.{◌≡◌, ◌≤◌, ℕ, true, length, IfErr, IfNone, IfOk, IfSome, IsErr, IsNone, IsOk, IsSome, IsUtf8, OnErr, OnOk, OnSome};
+ghost use Rattle.plan_ports.specs.Edge.{OpenFile, OpenFiles, after_return, after_write, faulted, file_state, files_state, lending, output_state};
 ghost use Rattle.plan_ports.specs.InMemory.{raised};
+ghost use Rattle.plan_ports.specs.Streams.{IsOpenInput, is_input, is_input_name};
 
 use crate::{Failed, PortFault, Shelf, Sink, Source};
 use std::io::{Read, Write};
@@ -23,24 +25,18 @@ pub struct FileSource<F, I> {
 }
 
 impl<F, I> Model for FileSource<F, I> {
-    ghost Value = { ℕ };
+    ghost Value = { OpenFile };
 
-    ghost view = { λ s. s.faults };
+    ghost view = { λ s. record { is_input = is_input s.from; faults = s.faults } };
 }
 
 impl<F: Read + Drop, I: Read + Drop> Source for FileSource<F, I> {
-    ghost tells = { λ _. false };
-
-    ghost left = { λ _. [] };
-
-    ghost faults = { λ faults. faults };
-
-    ghost is_sound = { λ _. false };
+    ghost state = { file_state };
 
     fn take(&mut self, buf: &mut [u8]) -> Result<usize, Failed>
         ensures within { IfOk result (λ n. n ≤ length buf.old) }
         ensures stays { OnOk result (self.new ≡ self.old) }
-        ensures rises { OnErr result (self.new ≡ raised self.old) }
+        ensures rises { OnErr result (self.new ≡ record self.old { faults = raised self.old.faults }) }
     {
         let read = match &mut self.from {
             Stream::File(file) => file.read(buf),
@@ -60,41 +56,58 @@ impl<F: Read + Drop, I: Read + Drop> Source for FileSource<F, I> {
 #[derive(Drop)]
 pub struct FileShelf<'a, H: Files + Input> {
     rt: &'a H,
+    lent: u64,
     faults: u64,
 }
 
 impl<'a, H: Files + Input> Model for FileShelf<'a, H> {
-    ghost Value = { ℕ };
+    ghost Value = { OpenFiles };
 
-    ghost view = { λ s. s.faults };
+    ghost view = { λ s. record { lent = s.lent; faults = s.faults } };
 }
 
 impl<'a, H: Files + Input> FileShelf<'a, H> {
     pub fn new(rt: &'a H) -> FileShelf<'a, H>
-        ensures { result ≡ 0 }
+        ensures { result ≡ record { lent = 0; faults = 0 } }
     {
-        FileShelf { rt, faults: 0 }
+        FileShelf {
+            rt,
+            lent: 0,
+            faults: 0,
+        }
+    }
+
+    // The stream under a name, counted as lent; none where it can't be opened, or the count can't rise.
+    fn lend(&mut self, name: &[u8]) -> Option<Stream<H::File, H::Reader>>
+        ensures input { IfSome result (λ from. is_input from ≡ is_input_name name.now) }
+        ensures unreadable { ¬ (IsUtf8 name.now) → IsNone result }
+        ensures lends { OnSome result (self.new ≡ lending self.old) }
+        ensures stays { IfNone result (self.new ≡ self.old) }
+        ensures always { IsOpenInput name.now self.old → IsSome result }
+    {
+        let lent = self.lent.checked_add(1)?;
+        let from = open_stream(self.rt, name)?;
+        self.lent = lent;
+        Some(from)
     }
 }
 
 impl<'a, H: Files + Input> Shelf for FileShelf<'a, H> {
     type File = FileSource<H::File, H::Reader>;
 
-    ghost tells = { λ _. false };
-
-    ghost bytes_of = { λ _ _. None };
-
-    ghost is_sound = { λ _ _. false };
-
-    ghost faults = { λ faults. faults };
+    ghost state = { files_state };
 
     fn open(&mut self, name: &[u8]) -> Result<FileSource<H::File, H::Reader>, PortFault>
-        ensures fresh { IfOk result (λ file. file ≡ 0) }
-        ensures stays { OnOk result (self.new ≡ self.old) }
-        ensures rises { OnErr result (self.new ≡ raised self.old) }
+        ensures opens { IfOk result (λ file. file ≡ record { is_input = is_input_name name.now; faults = 0 }) }
+        ensures lends { OnOk result (self.new ≡ lending self.old) }
+        ensures rises { OnErr result (self.new ≡ faulted self.old) }
         ensures failed { IfErr result (λ e. e ≡ PortFault.Failed) }
+
+        // A name that isn't UTF-8 opens nothing; standard input always opens, while the count can rise.
+        ensures unreadable { ¬ (IsUtf8 name.now) → IsErr result }
+        ensures always { IsOpenInput name.now self.old → IsOk result }
     {
-        match open_stream(self.rt, name) {
+        match self.lend(name) {
             Some(from) => Ok(FileSource { from, faults: 0 }),
             None => {
                 self.faults = self.faults.saturating_add(1);
@@ -104,10 +117,9 @@ impl<'a, H: Files + Input> Shelf for FileShelf<'a, H> {
     }
 
     fn close(&mut self, file: FileSource<H::File, H::Reader>)
-        ensures rose { 0 < file → self.new ≡ raised self.old }
-        ensures stays { file ≡ 0 → self.new ≡ self.old }
-        ensures later { self.old ≤ self.new }
+        ensures { self.new ≡ after_return file.faults self.old }
     {
+        self.lent = self.lent.saturating_sub(1);
         if file.faults > 0 {
             self.faults = self.faults.saturating_add(1);
         }
@@ -115,11 +127,17 @@ impl<'a, H: Files + Input> Shelf for FileShelf<'a, H> {
 }
 
 // What stands under a name, where it can be opened.
-fn open_stream<H: Files + Input>(rt: &H, name: &[u8]) -> Option<Stream<H::File, H::Reader>> {
+fn open_stream<H: Files + Input>(rt: &H, name: &[u8]) -> Option<Stream<H::File, H::Reader>>
+    ensures input { IfSome result (λ from. is_input from ≡ is_input_name name.now) }
+    ensures unreadable { ¬ (IsUtf8 name.now) → IsNone result }
+    ensures always { is_input_name name.now ≡ true → IsSome result }
+{
     if name == b"@".as_slice() {
         return Some(Stream::Input(rt.reader()));
     }
-    let path = str::from_utf8(name).ok()?;
+    let Ok(path) = str::from_utf8(name) else {
+        return None;
+    };
     let file = fs::open(rt, path).ok()?;
     Some(Stream::File(file))
 }
@@ -146,20 +164,13 @@ impl<'a, H: Print> OutSink<'a, H> {
 }
 
 impl<'a, H: Print> Sink for OutSink<'a, H> {
-    ghost tells = { λ _. false };
-
-    ghost written = { λ _. [] };
-
-    ghost faults = { λ faults. faults };
+    ghost state = { output_state };
 
     fn put(&mut self, piece: &[u8]) -> Result<usize, PortFault>
         ensures within { IfOk result (λ n. n ≤ length piece.now) }
-        ensures stays { IfOk result (λ n. 0 < n → self.new ≡ self.old) }
-        ensures zero { IfOk result (λ n. n ≡ 0 → 0 < length piece.now → self.new ≡ raised self.old) }
-        ensures empty { length piece.now ≡ 0 → OnOk result (self.new ≡ self.old) }
+        ensures counts { IfOk result (λ n. self.new ≡ after_write n (length piece.now) self.old) }
         ensures rises { OnErr result (self.new ≡ raised self.old) }
         ensures failed { IfErr result (λ e. e ≡ PortFault.Failed) }
-        ensures later { self.old ≤ self.new }
     {
         match io::writer(self.rt).write(piece) {
             Ok(n) => {

@@ -67,11 +67,7 @@ struct Full {
 }
 
 impl Sink for Full {
-    ghost tells = { λ _. true };
-
-    ghost written = { λ _. [] };
-
-    ghost faults = { λ s. s.faults };
+    ghost state = { λ s. record { tells = true; written = []; faults = s.faults } };
 
     fn put(&mut self, _piece: &[u8]) -> Result<usize, PortFault> {
         self.faults = self.faults.saturating_add(1);
@@ -151,8 +147,11 @@ fn shelf(alloc: Global, fail: &[u32]) -> Result<MemShelf, Fail> {
     Ok(MemShelf::new(alloc, files, Vec::from_slice(alloc, fail)?))
 }
 
-// What an open and a reading of the whole file give.
-fn fetched<S: Shelf>(alloc: Global, shelf: &mut S, name: &[u8]) -> Result<Vec<u8>, ReadFault> {
+// What an open and a reading of the whole file give, of files that may be sent to a thread.
+fn fetched<S: Shelf>(alloc: Global, shelf: &mut S, name: &[u8]) -> Result<Vec<u8>, ReadFault>
+where
+    S::File: Send,
+{
     let mut file = match shelf.open(name) {
         Ok(file) => file,
         Err(PortFault::Memory) => return Err(ReadFault::Memory),
@@ -188,9 +187,17 @@ fn a_shelf_opens_the_first_file_of_a_name(rt: HostRuntime) -> Result<(), Fail> {
     Ok(())
 }
 
-// What a run hands to its threads.
-fn is_send<T: Send>(_value: &T) -> bool {
-    true
+#[test]
+fn a_shelf_counts_the_files_that_it_has_lent(rt: HostRuntime) -> Result<(), Fail> {
+    let mut shelf = shelf(rt.alloc(), &[1])?;
+    let Ok(file) = shelf.open(b"p") else {
+        panic!(rt; "the file can't be opened");
+    };
+    assert!(rt; shelf.open(b"p").is_err());
+    assert_eq!(rt; shelf.lent(), 1);
+    shelf.close(file);
+    assert_eq!(rt; shelf.lent(), 0);
+    Ok(())
 }
 
 #[test]
@@ -217,17 +224,20 @@ fn real_files_are_read_by_name(rt: HostRuntime) -> Result<(), Fail> {
     let Ok(input) = shelf.open(b"@") else {
         panic!(rt; "standard input can't be opened");
     };
-    assert!(rt; is_send(&input));
     shelf.close(input);
     Ok(())
+}
+
+// Writes a text to a sink that may be sent to a thread.
+fn written<K: Sink + Send>(out: &mut K, text: &[u8]) -> Result<(), PortFault> {
+    put_all(out, text)
 }
 
 #[test]
 fn standard_output_takes_a_text(rt: HostRuntime) {
     let mut out = OutSink::new(&rt);
-    assert!(rt; is_send(&out));
     assert_eq!(rt;
-        put_all(&mut out, b"standard output takes a text\n"),
+        written(&mut out, b"standard output takes a text\n"),
         Ok(())
     );
 }

@@ -1,11 +1,11 @@
-ghost use Rattle.std.specs.Prelude.{◌≡◌, ◌≤◌, ◌<◌, All, IfOk, None, length, map};
-ghost use Rattle.plan_facts.specs.Plan.{records_of, unplaced_of};
-ghost use Rattle.plan_rules.specs.Range.{range_fault_of, sizes_of};
-ghost use Rattle.plan_rules.specs.Totals.{all_matches, impact_sum, score_of};
+ghost use Rattle.std.specs.Prelude.{◌≡◌, ◌<◌, IfOk};
+ghost use Rattle.plan_rules.specs.Range.{sizes_of};
+ghost use Rattle.plan_rules.specs.Totals.{whole_score};
+ghost use Rattle.plan_recalc.specs.Totals.{whole_matches};
 
 use crate::calculator::{Totals, recalc, score};
 use plan_facts::{Memory, Plan};
-use plan_rules::{Book, Kept, Rules, Steps};
+use plan_rules::{Book, Judges, Rules, Steps};
 use plan_scores::PlanScore;
 use std::alloc::Global;
 use std::marker::Brand;
@@ -18,13 +18,9 @@ pub fn totals_alone<B: Book>(
     plan: &Plan,
     weights: &[u32],
 ) -> Result<Totals, Memory>
-    requires keeps { ⟦<Rules<B> as Kept>⟧.keeps rules.now }
-    requires weights { length weights.now ≡ length rules.now.defs }
-    requires few { All (λ weight. weight ≤ 1000000) weights.now }
-    requires range { range_fault_of (sizes_of plan.now) rules.now.defs weights.now rules.now.caps ≡ None }
-    ensures matches { IfOk result (λ totals. totals.matches ≡ all_matches B.meaning (records_of plan.now) rules.now.defs weights.now) }
-    ensures impacts { IfOk result (λ totals. totals.impacts ≡ map impact_sum totals.matches) }
-    ensures score { IfOk result (λ totals. totals.score ≡ record { unplaced = unplaced_of plan.now; score = score_of B.meaning (records_of plan.now) rules.now.defs weights.now }) }
+    requires { ⟦<Rules<B> as Judges>⟧.judges rules.now weights.now (sizes_of plan.now) }
+    ensures matches { IfOk result (λ t. t.matches ≡ whole_matches B.meaning rules.now.defs weights.now plan.now) }
+    ensures score { IfOk result (λ t. t.score ≡ whole_score B.meaning rules.now.defs weights.now plan.now) }
 {
     totals_from::<B, Brand>(alloc, rules, plan, weights, Blank::new(1))
 }
@@ -36,11 +32,8 @@ pub fn score_alone<B: Book>(
     plan: &Plan,
     weights: &[u32],
 ) -> Result<PlanScore, Memory>
-    requires keeps { ⟦<Rules<B> as Kept>⟧.keeps rules.now }
-    requires weights { length weights.now ≡ length rules.now.defs }
-    requires few { All (λ weight. weight ≤ 1000000) weights.now }
-    requires range { range_fault_of (sizes_of plan.now) rules.now.defs weights.now rules.now.caps ≡ None }
-    ensures { IfOk result (λ score. score ≡ record { unplaced = unplaced_of plan.now; score = score_of B.meaning (records_of plan.now) rules.now.defs weights.now }) }
+    requires { ⟦<Rules<B> as Judges>⟧.judges rules.now weights.now (sizes_of plan.now) }
+    ensures { IfOk result (λ score. score ≡ whole_score B.meaning rules.now.defs weights.now plan.now) }
 {
     score_from::<B, Brand>(alloc, rules, plan, weights, Blank::new(1))
 }
@@ -56,13 +49,9 @@ fn totals_from<B: Book, L: Ledger>(
     requires name { blank.name ≡ L.name }
     requires parts { blank.parts ≡ L.parts }
     requires some { 0 < L.parts }
-    requires keeps { ⟦<Rules<B> as Kept>⟧.keeps rules.now }
-    requires weights { length weights.now ≡ length rules.now.defs }
-    requires few { All (λ weight. weight ≤ 1000000) weights.now }
-    requires range { range_fault_of (sizes_of plan.now) rules.now.defs weights.now rules.now.caps ≡ None }
-    ensures matches { IfOk result (λ totals. totals.matches ≡ all_matches B.meaning (records_of plan.now) rules.now.defs weights.now) }
-    ensures impacts { IfOk result (λ totals. totals.impacts ≡ map impact_sum totals.matches) }
-    ensures score { IfOk result (λ totals. totals.score ≡ record { unplaced = unplaced_of plan.now; score = score_of B.meaning (records_of plan.now) rules.now.defs weights.now }) }
+    requires judges { ⟦<Rules<B> as Judges>⟧.judges rules.now weights.now (sizes_of plan.now) }
+    ensures matches { IfOk result (λ t. t.matches ≡ whole_matches B.meaning rules.now.defs weights.now plan.now) }
+    ensures score { IfOk result (λ t. t.score ≡ whole_score B.meaning rules.now.defs weights.now plan.now) }
 {
     let mut steps: Steps<L> = Steps::new(blank);
     recalc(alloc, rules, plan, weights, &mut steps)
@@ -79,11 +68,8 @@ fn score_from<B: Book, L: Ledger>(
     requires name { blank.name ≡ L.name }
     requires parts { blank.parts ≡ L.parts }
     requires some { 0 < L.parts }
-    requires keeps { ⟦<Rules<B> as Kept>⟧.keeps rules.now }
-    requires weights { length weights.now ≡ length rules.now.defs }
-    requires few { All (λ weight. weight ≤ 1000000) weights.now }
-    requires range { range_fault_of (sizes_of plan.now) rules.now.defs weights.now rules.now.caps ≡ None }
-    ensures { IfOk result (λ score. score ≡ record { unplaced = unplaced_of plan.now; score = score_of B.meaning (records_of plan.now) rules.now.defs weights.now }) }
+    requires judges { ⟦<Rules<B> as Judges>⟧.judges rules.now weights.now (sizes_of plan.now) }
+    ensures { IfOk result (λ score. score ≡ whole_score B.meaning rules.now.defs weights.now plan.now) }
 {
     let mut steps: Steps<L> = Steps::new(blank);
     score(alloc, rules, plan, weights, &mut steps)

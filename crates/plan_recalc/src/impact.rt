@@ -1,10 +1,11 @@
-ghost use Rattle.std.specs.Prelude.{◌≡◌, ◌≤◌, All, map};
+ghost use Rattle.std.specs.Prelude.{◌≡◌, ◌≤◌, All};
+ghost use Rattle.plan_rules.specs.Closures.{capped};
+ghost use Rattle.plan_facts.specs.Limits.{weight_limit};
 ghost use Rattle.plan_rules.specs.Named.{weigh_closures};
 ghost use Rattle.plan_rules.specs.Range.{cap_of};
 ghost use Rattle.plan_rules.specs.Sound.{IsHandedIn};
 ghost use Rattle.plan_rules.specs.Totals.{impact_of, match_weight};
 
-use plan_rows::weight_of;
 use plan_rules::{Book, Kept, Row, RuleDef, Rules, Steps};
 use plan_scores::Score;
 use std::sync::ledger::Ledger;
@@ -19,9 +20,9 @@ pub fn impact_of<B: Book, L: Ledger>(
 ) -> Score
     requires keeps { ⟦<Rules<B> as Kept>⟧.keeps rules.now }
     requires weigher { All (IsHandedIn rules.now.numbers) (weigh_closures rule.now.weigh) }
-    requires few { weight ≤ 1000000 }
+    requires few { weight ≤ weight_limit }
     ensures value { result ≡ impact_of B.meaning rule.now weight row.now }
-    ensures cap { match_weight B.meaning rule.now row.now ≤ cap_of (map (λ weigher. record { number = weigher.number; cap = weigher.cap }) rules.now.weighs) rule.now }
+    ensures cap { match_weight B.meaning rule.now row.now ≤ cap_of (capped rules.now.weighs) rule.now }
 {
     let number = i64::from(weight) * i64::from(match_weight(rules, rule, row, steps));
     let signed = if rule.reward { number } else { -number };
@@ -38,10 +39,10 @@ fn match_weight<B: Book, L: Ledger>(
     requires keeps { ⟦<Rules<B> as Kept>⟧.keeps rules.now }
     requires weigher { All (IsHandedIn rules.now.numbers) (weigh_closures rule.now.weigh) }
     ensures value { result ≡ match_weight B.meaning rule.now row.now }
-    ensures cap { result ≤ cap_of (map (λ weigher. record { number = weigher.number; cap = weigher.cap }) rules.now.weighs) rule.now }
+    ensures cap { result ≤ cap_of (capped rules.now.weighs) rule.now }
 {
     match rule.weigh {
-        Some(number) => weight_of(rules, number, row, steps),
+        Some(number) => rules.match_weight_of(number, row, steps),
         None => 1,
     }
 }

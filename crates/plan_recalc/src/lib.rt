@@ -3,8 +3,20 @@
 
 mod alone;
 mod calculator;
+mod collect;
+mod facts;
+mod group;
+mod head;
 mod impact;
+mod join;
+mod keyed;
+mod keys;
 mod matches;
+mod node;
+mod right;
+mod single;
+mod stream;
+mod sum;
 
 pub use alone::{score_alone, totals_alone};
 pub use calculator::{Totals, recalc, score};

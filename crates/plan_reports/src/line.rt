@@ -1,12 +1,13 @@
-ghost use Rattle.std.specs.Prelude.{◌≡◌, ◌++◌, length, take, codes, decimal, OnOk, OnErr};
-ghost use Rattle.plan_reports.specs.Lines.{line_text, fact_text, entity_text, row_text};
-ghost use Rattle.plan_scores.specs.Text.{score_text, plan_score_text};
+ghost use Rattle.std.specs.Prelude.{◌++◌, codes, decimal};
+ghost use Rattle.plan_facts.specs.Append.{Appends};
+ghost use Rattle.plan_reports.specs.Lines.{entity_text, fact_text, line_text, match_text, place_text, scored_text, step_end, step_text, sum_text, winner_text};
+ghost use Rattle.plan_reports.specs.Puts.{Puts};
 
 use crate::parts::{
     put, put_entity, put_fact, put_number, put_plan_score, put_row, put_score, rule_name,
 };
 use plan_facts::{List, Memory, Schema, Text};
-use plan_rules::{Part, Row, RuleDef};
+use plan_rules::{Row, RuleDef};
 use plan_scores::{PlanScore, Score};
 
 /// A printed line. Classes and rules are named by their numbers.
@@ -34,6 +35,14 @@ pub enum Line {
     },
     /// The leg's score after placing.
     Start(PlanScore),
+    /// A step was done: the number of the candidate that won it, if any, the score after it, and whether that is better
+    /// than all of the leg before.
+    Step {
+        step: u32,
+        winner: Option<u32>,
+        score: PlanScore,
+        is_best: bool,
+    },
     /// The score of the best plan.
     Best(PlanScore),
     /// An entity of the best plan.
@@ -61,8 +70,7 @@ pub enum Line {
 
 /// Appends a word, a text and the end of the line.
 fn put_named(out: &mut Vec<u8>, word: &[u8], text: &[u8]) -> Result<(), Memory>
-    ensures ok { OnOk result (out.new.items ≡ out.old.items ++ (word.now ++ text.now ++ codes "\n")) }
-    ensures err { OnErr result (take (length out.old.items) out.new.items ≡ out.old.items) }
+    ensures { Puts result out.old.items out.new.items (word.now ++ text.now ++ codes "\n") }
 {
     put(out, word)?;
     put(out, text)?;
@@ -71,8 +79,7 @@ fn put_named(out: &mut Vec<u8>, word: &[u8], text: &[u8]) -> Result<(), Memory>
 
 /// Appends a word, a plan's score and the end of the line.
 fn put_scored(out: &mut Vec<u8>, word: &[u8], score: &PlanScore) -> Result<(), Memory>
-    ensures ok { OnOk result (out.new.items ≡ out.old.items ++ (word.now ++ plan_score_text score.now ++ codes "\n")) }
-    ensures err { OnErr result (take (length out.old.items) out.new.items ≡ out.old.items) }
+    ensures { Puts result out.old.items out.new.items (scored_text word.now score.now) }
 {
     put(out, word)?;
     put_plan_score(out, score)?;
@@ -81,8 +88,7 @@ fn put_scored(out: &mut Vec<u8>, word: &[u8], score: &PlanScore) -> Result<(), M
 
 /// Appends the line of a leg.
 fn put_leg(out: &mut Vec<u8>, boundary: u32) -> Result<(), Memory>
-    ensures ok { OnOk result (out.new.items ≡ out.old.items ++ (codes "leg " ++ decimal boundary ++ codes "\n")) }
-    ensures err { OnErr result (take (length out.old.items) out.new.items ≡ out.old.items) }
+    ensures { Puts result out.old.items out.new.items (codes "leg " ++ decimal boundary ++ codes "\n") }
 {
     put(out, b"leg ")?;
     put_number(out, u64::from(boundary))?;
@@ -91,34 +97,89 @@ fn put_leg(out: &mut Vec<u8>, boundary: u32) -> Result<(), Memory>
 
 /// Appends the line of the entity at which placing stopped.
 fn put_stuck(out: &mut Vec<u8>, schema: &Schema, class: u8, id: u32) -> Result<(), Memory>
-    ensures ok { OnOk result (out.new.items ≡ out.old.items ++ (codes "stuck " ++ fact_text schema.now class id ++ codes "\n")) }
-    ensures err { OnErr result (take (length out.old.items) out.new.items ≡ out.old.items) }
+    ensures { Puts result out.old.items out.new.items (codes "stuck " ++ fact_text schema.now class id ++ codes "\n") }
 {
     put(out, b"stuck ")?;
     put_fact(out, schema, class, id)?;
     put(out, b"\n")
 }
 
-/// Appends a word and an entity with its values.
-fn put_valued(
+/// Appends the line of an entity that was placed.
+fn put_place(
     out: &mut Vec<u8>,
-    word: &[u8],
+    schema: &Schema,
+    class: u8,
+    id: u32,
+    values: &[Option<u32>],
+    score: &PlanScore,
+) -> Result<(), Memory>
+    ensures { Puts result out.old.items out.new.items (place_text schema.now class id values.now score.now) }
+{
+    put(out, b"place ")?;
+    put_entity(out, schema, class, id, values)?;
+    put_scored(out, b" ", score)
+}
+
+/// Appends what won a step: a candidate's number, or none.
+fn put_winner(out: &mut Vec<u8>, winner: Option<u32>) -> Result<(), Memory>
+    ensures { Puts result out.old.items out.new.items (winner_text winner) }
+{
+    match winner {
+        Some(number) => {
+            put(out, b"candidate ")?;
+            put_number(out, u64::from(number))
+        }
+        None => put(out, b"none"),
+    }
+}
+
+/// Appends the end of a step's line, which says whether its winner is the best of the leg so far.
+fn put_step_end(out: &mut Vec<u8>, winner: Option<u32>, is_best: bool) -> Result<(), Memory>
+    ensures { Puts result out.old.items out.new.items (step_end winner is_best) }
+{
+    if winner.is_some() && is_best {
+        put(out, b" best\n")
+    } else {
+        put(out, b"\n")
+    }
+}
+
+/// Appends the line of a step.
+fn put_step(
+    out: &mut Vec<u8>,
+    step: u32,
+    winner: Option<u32>,
+    score: &PlanScore,
+    is_best: bool,
+) -> Result<(), Memory>
+    ensures { Puts result out.old.items out.new.items (step_text step winner score.now is_best) }
+{
+    put(out, b"step ")?;
+    put_number(out, u64::from(step))?;
+    put(out, b" ")?;
+    put_winner(out, winner)?;
+    put(out, b" ")?;
+    put_plan_score(out, score)?;
+    put_step_end(out, winner, is_best)
+}
+
+/// Appends the line of an entity of the best plan.
+fn put_best_entity(
+    out: &mut Vec<u8>,
     schema: &Schema,
     class: u8,
     id: u32,
     values: &[Option<u32>],
 ) -> Result<(), Memory>
-    ensures ok { OnOk result (out.new.items ≡ out.old.items ++ (word.now ++ entity_text schema.now class id values.now)) }
-    ensures err { OnErr result (take (length out.old.items) out.new.items ≡ out.old.items) }
+    ensures { Puts result out.old.items out.new.items (entity_text schema.now class id values.now ++ codes "\n") }
 {
-    put(out, word)?;
-    put_entity(out, schema, class, id, values)
+    put_entity(out, schema, class, id, values)?;
+    put(out, b"\n")
 }
 
 /// Appends the line of a rule.
 fn put_rule(out: &mut Vec<u8>, name: &[u8], count: u64, impact: &Score) -> Result<(), Memory>
-    ensures ok { OnOk result (out.new.items ≡ out.old.items ++ (codes "rule " ++ name.now ++ codes " " ++ decimal count ++ codes " " ++ score_text impact.now ++ codes "\n")) }
-    ensures err { OnErr result (take (length out.old.items) out.new.items ≡ out.old.items) }
+    ensures { Puts result out.old.items out.new.items (sum_text name.now count impact.now) }
 {
     put(out, b"rule ")?;
     put(out, name)?;
@@ -130,9 +191,8 @@ fn put_rule(out: &mut Vec<u8>, name: &[u8], count: u64, impact: &Score) -> Resul
 }
 
 /// Appends the line of a match.
-fn put_match(out: &mut Vec<u8>, schema: &Schema, impact: &Score, row: &[Part]) -> Result<(), Memory>
-    ensures ok { OnOk result (out.new.items ≡ out.old.items ++ (codes "match " ++ score_text impact.now ++ row_text schema.now row.now ++ codes "\n")) }
-    ensures err { OnErr result (take (length out.old.items) out.new.items ≡ out.old.items) }
+fn put_match(out: &mut Vec<u8>, schema: &Schema, impact: &Score, row: &Row) -> Result<(), Memory>
+    ensures { Puts result out.old.items out.new.items (match_text schema.now impact.now row.now) }
 {
     put(out, b"match ")?;
     put_score(out, impact)?;
@@ -140,15 +200,14 @@ fn put_match(out: &mut Vec<u8>, schema: &Schema, impact: &Score, row: &[Part]) -
     put(out, b"\n")
 }
 
-/// Appends the text of a line, or for want of memory a front of it.
-fn append_line(
+/// Appends the text of a line.
+fn put_line(
     schema: &Schema,
     rules: &[RuleDef],
     line: &Line,
     out: &mut Vec<u8>,
 ) -> Result<(), Memory>
-    ensures ok { OnOk result (out.new.items ≡ out.old.items ++ line_text schema.now rules.now line.now) }
-    ensures err { OnErr result (take (length out.old.items) out.new.items ≡ out.old.items) }
+    ensures { Puts result out.old.items out.new.items (line_text schema.now rules.now line.now) }
 {
     match line {
         Line::Run { domain } => put_named(out, b"run ", domain.as_slice()),
@@ -158,23 +217,25 @@ fn append_line(
             id,
             values,
             score,
-        } => {
-            put_valued(out, b"place ", schema, *class, *id, values.as_slice())?;
-            put_scored(out, b" ", score)
-        }
+        } => put_place(out, schema, *class, *id, values.as_slice(), score),
         Line::Stuck { class, id } => put_stuck(out, schema, *class, *id),
         Line::Start(score) => put_scored(out, b"start ", score),
+        Line::Step {
+            step,
+            winner,
+            score,
+            is_best,
+        } => put_step(out, *step, *winner, score, *is_best),
         Line::Best(score) => put_scored(out, b"best ", score),
         Line::Entity { class, id, values } => {
-            put_valued(out, b"", schema, *class, *id, values.as_slice())?;
-            put(out, b"\n")
+            put_best_entity(out, schema, *class, *id, values.as_slice())
         }
         Line::Rule {
             rule,
             count,
             impact,
         } => put_rule(out, rule_name(rules, *rule), *count, impact),
-        Line::Match { impact, row } => put_match(out, schema, impact, row.parts()),
+        Line::Match { impact, row } => put_match(out, schema, impact, row),
         Line::End => put(out, b"end\n"),
         Line::Total(score) => put_scored(out, b"score ", score),
     }
@@ -187,13 +248,10 @@ pub fn write_line(
     line: &Line,
     out: &mut Vec<u8>,
 ) -> Result<(), Memory>
-    ensures ok { OnOk result (out.new.items ≡ out.old.items ++ line_text schema.now rules.now line.now) }
-    ensures err { OnErr result (out.new.items ≡ out.old.items) }
+    ensures { Appends result out.old.items out.new.items (line_text schema.now rules.now line.now) }
 {
-    let start = out.len();
-    let written = append_line(schema, rules, line, out);
-    if written.is_err() {
-        out.truncate(start);
-    }
-    written
+    let mut text = Vec::new(*out.allocator());
+    put_line(schema, rules, line, &mut text)?;
+    out.append(&mut text)?;
+    Ok(())
 }

@@ -1,16 +1,16 @@
-ghost use Rattle.std.specs.Prelude.{◌≡◌, ◌++◌, length, take, decimal, OnOk, OnErr};
+ghost use Rattle.std.specs.Prelude.{◌≡◌, decimal};
+ghost use Rattle.plan_reports.specs.Puts.{Puts};
 ghost use Rattle.plan_reports.specs.Lines.{class_name, variables_of, rule_name, fact_text, value_text, variable_text, variables_text, part_text, row_text, entity_text};
 ghost use Rattle.plan_scores.specs.Text.{score_text, plan_score_text};
 
 use itoa::Buffer;
 use plan_facts::{Memory, Schema, VarDef};
-use plan_rules::{Part, RuleDef};
+use plan_rules::{Part, Row, RuleDef};
 use plan_scores::{PlanScore, Score};
 
-/// Appends a text, or for want of memory a front of it.
+/// Appends a text.
 pub fn put(out: &mut Vec<u8>, text: &[u8]) -> Result<(), Memory>
-    ensures ok { OnOk result (out.new.items ≡ out.old.items ++ text.now) }
-    ensures err { OnErr result (take (length out.old.items) out.new.items ≡ out.old.items) }
+    ensures { Puts result out.old.items out.new.items text.now }
 {
     out.extend_from_slice(text)?;
     Ok(())
@@ -18,24 +18,21 @@ pub fn put(out: &mut Vec<u8>, text: &[u8]) -> Result<(), Memory>
 
 /// Appends a whole number in plain decimal.
 pub fn put_number(out: &mut Vec<u8>, number: u64) -> Result<(), Memory>
-    ensures ok { OnOk result (out.new.items ≡ out.old.items ++ decimal number) }
-    ensures err { OnErr result (take (length out.old.items) out.new.items ≡ out.old.items) }
+    ensures { Puts result out.old.items out.new.items (decimal number) }
 {
     put(out, Buffer::new().format(number).as_bytes())
 }
 
 /// Appends a score.
 pub fn put_score(out: &mut Vec<u8>, score: &Score) -> Result<(), Memory>
-    ensures ok { OnOk result (out.new.items ≡ out.old.items ++ score_text score.now) }
-    ensures err { OnErr result (take (length out.old.items) out.new.items ≡ out.old.items) }
+    ensures { Puts result out.old.items out.new.items (score_text score.now) }
 {
     score.write_text(out).map_err(|_| Memory)
 }
 
 /// Appends a plan's score.
 pub fn put_plan_score(out: &mut Vec<u8>, score: &PlanScore) -> Result<(), Memory>
-    ensures ok { OnOk result (out.new.items ≡ out.old.items ++ plan_score_text score.now) }
-    ensures err { OnErr result (take (length out.old.items) out.new.items ≡ out.old.items) }
+    ensures { Puts result out.old.items out.new.items (plan_score_text score.now) }
 {
     score.write_text(out).map_err(|_| Memory)
 }
@@ -72,8 +69,7 @@ pub fn rule_name(rules: &[RuleDef], rule: u8) -> &[u8]
 
 /// Appends a fact: its class and id.
 pub fn put_fact(out: &mut Vec<u8>, schema: &Schema, class: u8, id: u32) -> Result<(), Memory>
-    ensures ok { OnOk result (out.new.items ≡ out.old.items ++ fact_text schema.now class id) }
-    ensures err { OnErr result (take (length out.old.items) out.new.items ≡ out.old.items) }
+    ensures { Puts result out.old.items out.new.items (fact_text schema.now class id) }
 {
     put(out, class_name(schema, class))?;
     put(out, b"#")?;
@@ -82,8 +78,7 @@ pub fn put_fact(out: &mut Vec<u8>, schema: &Schema, class: u8, id: u32) -> Resul
 
 /// Appends the id of a value, or a dash for null.
 fn put_value(out: &mut Vec<u8>, value: Option<u32>) -> Result<(), Memory>
-    ensures ok { OnOk result (out.new.items ≡ out.old.items ++ value_text value) }
-    ensures err { OnErr result (take (length out.old.items) out.new.items ≡ out.old.items) }
+    ensures { Puts result out.old.items out.new.items (value_text value) }
 {
     match value {
         Some(id) => put_number(out, u64::from(id)),
@@ -93,8 +88,7 @@ fn put_value(out: &mut Vec<u8>, value: Option<u32>) -> Result<(), Memory>
 
 /// Appends a variable and its value after a space.
 fn put_variable(out: &mut Vec<u8>, var: &VarDef, value: Option<u32>) -> Result<(), Memory>
-    ensures ok { OnOk result (out.new.items ≡ out.old.items ++ variable_text var.now value) }
-    ensures err { OnErr result (take (length out.old.items) out.new.items ≡ out.old.items) }
+    ensures { Puts result out.old.items out.new.items (variable_text var.now value) }
 {
     put(out, b" ")?;
     put(out, var.name.as_slice())?;
@@ -103,10 +97,8 @@ fn put_variable(out: &mut Vec<u8>, var: &VarDef, value: Option<u32>) -> Result<(
 }
 
 /// Appends variables with their values.
-#[tactic(auto, using(crate::proofs::Fronts::front_of_longer))]
 fn put_variables(out: &mut Vec<u8>, vars: &[VarDef], values: &[Option<u32>]) -> Result<(), Memory>
-    ensures ok { OnOk result (out.new.items ≡ out.old.items ++ variables_text vars.now values.now) }
-    ensures err { OnErr result (take (length out.old.items) out.new.items ≡ out.old.items) }
+    ensures { Puts result out.old.items out.new.items (variables_text vars.now values.now) }
 {
     let [var, other_vars @ ..] = vars else {
         return Ok(());
@@ -126,31 +118,31 @@ pub fn put_entity(
     id: u32,
     values: &[Option<u32>],
 ) -> Result<(), Memory>
-    ensures ok { OnOk result (out.new.items ≡ out.old.items ++ entity_text schema.now class id values.now) }
-    ensures err { OnErr result (take (length out.old.items) out.new.items ≡ out.old.items) }
+    ensures { Puts result out.old.items out.new.items (entity_text schema.now class id values.now) }
 {
     put_fact(out, schema, class, id)?;
     put_variables(out, variables(schema, class), values)
 }
 
-/// Appends a part of a row after a space.
+/// Appends a part of a row.
 fn put_part(out: &mut Vec<u8>, schema: &Schema, part: &Part) -> Result<(), Memory>
-    ensures ok { OnOk result (out.new.items ≡ out.old.items ++ part_text schema.now part.now) }
-    ensures err { OnErr result (take (length out.old.items) out.new.items ≡ out.old.items) }
+    ensures { Puts result out.old.items out.new.items (part_text schema.now part.now) }
 {
-    put(out, b" ")?;
     match part {
         Part::Fact(rec) => put_fact(out, schema, rec.class, rec.id),
         Part::Num(number) => put(out, Buffer::new().format(*number).as_bytes()),
     }
 }
 
-/// Appends the parts of a row.
-pub fn put_row(out: &mut Vec<u8>, schema: &Schema, row: &[Part]) -> Result<(), Memory>
-    ensures ok { OnOk result (out.new.items ≡ out.old.items ++ row_text schema.now row.now) }
-    ensures err { OnErr result (take (length out.old.items) out.new.items ≡ out.old.items) }
+/// Appends the parts of a row, each after a space.
+pub fn put_row(out: &mut Vec<u8>, schema: &Schema, row: &Row) -> Result<(), Memory>
+    ensures { Puts result out.old.items out.new.items (row_text schema.now row.now) }
 {
-    for part in row {
+    for n in 0..row.len() {
+        let Some(part) = row.part(n) else {
+            unreachable!();
+        };
+        put(out, b" ")?;
         put_part(out, schema, part)?;
     }
     Ok(())

@@ -15,6 +15,7 @@ fn class(alloc: Global, name: &str, vars: &[(&str, u8)]) -> Result<ClassDef, Mem
         list.push(VarDef {
             name: text(alloc, name)?,
             values: *values,
+            nullable: false,
         })?;
     }
     let mut fields = List::new(alloc);

@@ -1,52 +1,56 @@
 -- What holds of rules that are accepted.
-use Rattle.std.proofs.Common.{◌≡◌, ℕ, ◌≤◌, ◌<◌, ◌||◌, Bool, true, false, cond, not, List, [], ◌∷◌, ◌++◌, Option, Some, None, take, get_or, length, refl, inl, inr, arith, nat_lt}
-use Rattle.std.specs.Prelude.{All, IfSome, IsTrue, find, nat_le, option_map}
+use Rattle.std.proofs.Common.{◌≡◌, ◌∙◌, ℕ, ◌≤◌, ◌<◌, ◌||◌, Bool, true, false, cond, not, List, [], ◌∷◌, ◌++◌, Option, Some, None, take, get_or, length, refl, ap, inl, inr, nat_lt}
+use Rattle.std.specs.Prelude.{All, IfSome, IsTrue, ◌==◌, find, nat_le, option_map}
 use Rattle.std.specs.List.{cons_option, flat_map, filter_map, list_any}
 use Rattle.std.specs.Option.{option_or}
-use Rattle.std.proofs.lemmas.Bool.Decides.{nat_tests}
 use Rattle.std.proofs.lemmas.List.Elements.{All-nil, All-cons, All-head, All-tail, All-weaker}
-use Rattle.plan_facts.specs.First.{first_fault}
+use Rattle.plan_facts.specs.Limits.{weight_limit}
+use Rattle.plan_facts.specs.Refusal.{IsRefusal}
+use Rattle.plan_facts.specs.First.{fault_where, first_fault}
 use Rattle.plan_facts.proofs.FirstLaws.{first_fault-none, option_or-none}
+use Rattle.plan_facts.specs.declared.record.ClassDef.{ClassDef}
 use Rattle.plan_rules.specs.declared.places.Numbers.{Numbers}
+use Rattle.plan_rules.specs.declared.rule.Harder.{Harder}
 use Rattle.plan_rules.specs.declared.rule.RuleDef.{RuleDef}
 use Rattle.plan_rules.specs.declared.fault.RuleFault.{RuleFault}
-use Rattle.plan_rules.specs.declared.fault.RuleFault.TheVariants.{TooManyRules, BadName, WeightRange, TooManyNodes, UnknownClass, TooManyJoiners, KeyCount, TooManyParts}
-use Rattle.plan_rules.specs.Faults.{IsRefusal, closures_fault, defs_fault, rules_fault, rule_fault, fault_where, has_bad_name, unknown_class, has_too_many_joiners, has_bad_key_count, lacks_room, is_handed_in, is_missing}
-use Rattle.plan_rules.specs.Named.{head_class, head_joiners, head_parts, joiner_closures, node_class, node_joiners, node_closures, weigh_closures, closures_named, classes_named}
+use Rattle.plan_rules.specs.declared.fault.RuleFault.TheVariants.{Memory, TooManyRules, BadName, WeightRange, TooManyNodes, UnknownClass, TooManyJoiners, KeyCount, TooManyParts}
+use Rattle.plan_rules.specs.Faults.{closures_fault, defs_fault, rules_fault, rule_fault, has_bad_name, unknown_class, are_too_many, has_too_many_joiners, has_bad_key_count, lacks_room, has_entities, harder_fault, harders_fault, is_handed_in, is_missing}
+use Rattle.plan_rules.specs.Harder.{harder_key}
+use Rattle.plan_rules.specs.Named.{key_named, head_class, head_joiners, head_parts, joiner_closures, node_class, node_joiners, node_closures, weigh_closures, closures_named, classes_named}
 use Rattle.plan_rules.specs.Sound.{IsHandedIn, IsSound}
-
--- where no two closures have one number, the rules decide
-pub rules_fault-distinct : (classes : ℕ) (numbers : Numbers) (rules : List RuleDef) → closures_fault numbers ≡ None → rules_fault classes numbers rules ≡ defs_fault classes numbers rules
-unfolding rules_fault
-rules_fault-distinct classes numbers rules distinct = rw distinct refl
+use Rattle.plan_rules.proofs.PlacesLaws.{StandsIn, found_stands}
+use Rattle.plan_rules.proofs.Untrue.{neither, within, below}
 
 -- a refusal by what comes first is one by both
-refused_first : (first later : Option RuleFault) (fault : RuleFault) → IsRefusal first fault → IsRefusal (option_or first later) fault
+refused_first : (first later : Option RuleFault) (fault : RuleFault) → IsRefusal Memory first fault → IsRefusal Memory (option_or first later) fault
 refused_first None later fault (inl memory) = inl memory
 refused_first None later fault (inr found) = cc
 refused_first (Some first) later fault refusal = refusal
 
 -- a refusal of the closures is one of the rules
-pub refusal_of_closures : (classes : ℕ) (numbers : Numbers) (rules : List RuleDef) (fault : RuleFault) → IsRefusal (closures_fault numbers) fault → IsRefusal (rules_fault classes numbers rules) fault
+pub refusal_of_closures : (schema : List ClassDef) (numbers : Numbers) (rules : List RuleDef) (harders : List Harder) (fault : RuleFault) → IsRefusal Memory (closures_fault numbers) fault → IsRefusal Memory (rules_fault schema numbers rules harders) fault
 unfolding rules_fault
-refusal_of_closures classes numbers rules fault refusal = refused_first (closures_fault numbers) (defs_fault classes numbers rules) fault refusal
+refusal_of_closures schema numbers rules harders fault refusal =
+    refused_first (closures_fault numbers) (option_or (defs_fault (length schema) numbers rules) (harders_fault schema numbers harders)) fault refusal
+
+-- where no two closures have one number, the first fault of the rules counts
+pub fault_of_rules : (schema : List ClassDef) (numbers : Numbers) (rules : List RuleDef) (harders : List Harder) (fault : RuleFault) → closures_fault numbers ≡ None → Some fault ≡ defs_fault (length schema) numbers rules → rules_fault schema numbers rules harders ≡ Some fault
+unfolding rules_fault
+fault_of_rules schema numbers rules harders fault distinct found = rw (distinct, ← found) refl
+
+-- and where they have none, that of the harder keys
+pub fault_of_harders : (schema : List ClassDef) (numbers : Numbers) (rules : List RuleDef) (harders : List Harder) (found : Option RuleFault) → closures_fault numbers ≡ None → None ≡ defs_fault (length schema) numbers rules → found ≡ harders_fault schema numbers harders → rules_fault schema numbers rules harders ≡ found
+unfolding rules_fault
+fault_of_harders schema numbers rules harders found distinct faultless is = rw (distinct, ← faultless, ← is) refl
 
 -- a test that refuses nothing doesn't hold
 unrefused : (test : Bool) (fault : RuleFault) → fault_where test fault ≡ None → test ≡ false
 unrefused false fault none = refl
 unrefused true fault none = cc
 
--- neither of two tests holds
-neither : (a b : Bool) → (a || b) ≡ false → (a ≡ false) × (b ≡ false)
-neither false b none = (refl, none)
-neither true b none = cc
-
--- what isn't above a limit
-within : (most n : ℕ) → nat_lt most n ≡ false → n ≤ most
-within most n none = grind (arith, nat_tests)
-
-below : (most n : ℕ) → nat_le most n ≡ false → n < most
-below most n none = grind (arith, nat_tests)
+-- what two equal finds are
+some_same : {m n : ℕ} → Some m ≡ Some n → m ≡ n
+some_same is = cc
 
 -- nothing was found before the answer was mapped
 unmapped : {X : Type 0} (f : X → RuleFault) (o : Option X) → option_map f o ≡ None → o ≡ None
@@ -107,7 +111,7 @@ sound_rule : (classes : ℕ) (numbers : Numbers) (earlier : List RuleDef) (rule 
 sound_rule classes numbers earlier rule none =
     let n = length earlier in
     let name = option_or-none (fault_where (has_bad_name earlier rule) (BadName n)) _ none in
-    let weight = option_or-none (fault_where (nat_lt 1000000 rule.weight) (WeightRange n)) _ name.1 in
+    let weight = option_or-none (fault_where (nat_lt weight_limit rule.weight) (WeightRange n)) _ name.1 in
     let nodes = option_or-none (fault_where (nat_lt 7 (length rule.nodes)) (TooManyNodes n)) _ weight.1 in
     let classes_known = option_or-none (option_map (λ class. UnknownClass n class) (unknown_class classes rule)) _ nodes.1 in
     let joiners = option_or-none (fault_where (has_too_many_joiners rule) (TooManyJoiners n)) _ classes_known.1 in
@@ -115,16 +119,16 @@ sound_rule classes numbers earlier rule none =
     let parts = option_or-none (fault_where (lacks_room (head_parts rule.head) rule.nodes) (TooManyParts n)) _ keys.1 in
     let known : All (λ class. class < classes) (classes_named rule) =
     All-weaker (λ class. nat_le classes class ≡ false) (λ class. class < classes) (λ class h. below classes class h) (classes_named rule) (find-none (λ class. nat_le classes class) (classes_named rule) (unmapped _ _ classes_known.0)) in
-    let few_joiners = neither (nat_lt 4 (length (head_joiners rule.head))) (list_any (λ node. nat_lt 4 (length (node_joiners node))) rule.nodes) (unrefused _ _ joiners.0) in
+    let few_joiners = neither (are_too_many (head_joiners rule.head)) (list_any (λ node. are_too_many (node_joiners node)) rule.nodes) (unrefused _ _ joiners.0) in
     let handed_in : All (IsHandedIn numbers) (closures_named rule) =
     All-weaker (λ named. is_missing numbers named ≡ false) (IsHandedIn numbers) (λ named h. not_missing (is_handed_in numbers named) h) (closures_named rule) (find-none (is_missing numbers) (closures_named rule) (unmapped _ _ parts.1)) in
     let before_end = All-append_left (IsHandedIn numbers) (flat_map joiner_closures (head_joiners rule.head) ++ flat_map node_closures rule.nodes) (weigh_closures rule.weigh) handed_in in
     let of_nodes = All-flat_map (IsHandedIn numbers) node_closures rule.nodes (All-append_right (IsHandedIn numbers) (flat_map joiner_closures (head_joiners rule.head)) (flat_map node_closures rule.nodes) before_end) in
     let node_classes = All-filter_map (λ class. class < classes) node_class rule.nodes (All-tail (λ class. class < classes) (head_class rule.head) (filter_map node_class rule.nodes) known) in
-    let node_joiners_few = list_any-false (λ node. nat_lt 4 (length (node_joiners node))) rule.nodes few_joiners.1 in
+    let node_joiners_few = list_any-false (λ node. are_too_many (node_joiners node)) rule.nodes few_joiners.1 in
     let node_keys = list_any-false has_bad_key_count rule.nodes (unrefused _ _ keys.0) in
     record {
-      weight = within 1000000 rule.weight (unrefused _ _ weight.0);
+      weight = within weight_limit rule.weight (unrefused _ _ weight.0);
       few_nodes = within 7 (length rule.nodes) (unrefused _ _ nodes.0);
       room = unrefused _ _ parts.0;
       head = record {
@@ -141,17 +145,45 @@ sound_rule classes numbers earlier rule none =
       weigher = All-append_right (IsHandedIn numbers) (flat_map joiner_closures (head_joiners rule.head) ++ flat_map node_closures rule.nodes) (weigh_closures rule.weigh) handed_in;
     }
 
--- rules that are accepted are at most 32
-pub few_rules : (classes : ℕ) (numbers : Numbers) (rules : List RuleDef) → rules_fault classes numbers rules ≡ None → length rules ≤ 32
+-- rules that are accepted have no fault in their definitions
+accepted_defs : (schema : List ClassDef) (numbers : Numbers) (rules : List RuleDef) (harders : List Harder) → rules_fault schema numbers rules harders ≡ None → defs_fault (length schema) numbers rules ≡ None
 unfolding rules_fault
-few_rules classes numbers rules accepted =
-    let defs = (option_or-none (closures_fault numbers) (defs_fault classes numbers rules) accepted).1 in
-    within 32 (length rules) (unrefused (nat_lt 32 (length rules)) TooManyRules (option_or-none (fault_where (nat_lt 32 (length rules)) TooManyRules) (first_fault (rule_fault classes numbers) [] rules) defs).0)
+accepted_defs schema numbers rules harders accepted =
+    (option_or-none (defs_fault (length schema) numbers rules) (harders_fault schema numbers harders)
+    (option_or-none (closures_fault numbers) (option_or (defs_fault (length schema) numbers rules) (harders_fault schema numbers harders)) accepted).1).0
+
+-- the key of a harder key that isn't bad was handed in
+key_there : (schema : List ClassDef) (numbers : Numbers) (earlier : List Harder) (harder : Harder) → harder_fault schema numbers earlier harder ≡ None → IsHandedIn numbers (key_named harder.key)
+key_there schema numbers earlier harder none =
+    not_missing (is_handed_in numbers (key_named harder.key))
+    (neither (not (has_entities schema harder.class) || list_any (λ other. other.class == harder.class) earlier) (is_missing numbers (key_named harder.key)) (unrefused _ _ none)).1
+
+key_found : (numbers : Numbers) (harders : List Harder) (number : ℕ) (found : Option Harder) → ((k : ℕ) (d : Harder) → k < length harders → IsHandedIn numbers (key_named (get_or harders k d).key)) →
+    IfSome found (StandsIn harders) → option_map (λ (one : Harder). one.key) found ≡ Some number → IsHandedIn numbers (key_named number)
+key_found numbers harders number None all stands is = cc
+key_found numbers harders number (Some harder) all stands is =
+    let same : (get_or harders stands.place harder).key ≡ number = ap (λ (one : Harder). one.key) stands.at ∙ some_same is in
+    rw (← same) (all stands.place harder stands.within)
+
+-- the harder key of a class was handed in
+pub harder_there : (schema : List ClassDef) (numbers : Numbers) (rules : List RuleDef) (harders : List Harder) (class number : ℕ) → rules_fault schema numbers rules harders ≡ None → harder_key harders class ≡ Some number → IsHandedIn numbers (key_named number)
+unfolding rules_fault
+harder_there schema numbers rules harders class number accepted is =
+    let none = (option_or-none (defs_fault (length schema) numbers rules) (harders_fault schema numbers harders)
+    (option_or-none (closures_fault numbers) (option_or (defs_fault (length schema) numbers rules) (harders_fault schema numbers harders)) accepted).1).1 in
+    key_found numbers harders number (find (λ one. one.class == class) harders)
+    (λ k d lt. key_there schema numbers (take k harders) (get_or harders k d) (first_fault-none (harder_fault schema numbers) [] harders none k d lt))
+    (found_stands (λ one. one.class == class) harders) is
+
+-- rules that are accepted are at most 32
+pub few_rules : (schema : List ClassDef) (numbers : Numbers) (rules : List RuleDef) (harders : List Harder) → rules_fault schema numbers rules harders ≡ None → length rules ≤ 32
+few_rules schema numbers rules harders accepted =
+    let defs = accepted_defs schema numbers rules harders accepted in
+    within 32 (length rules) (unrefused (nat_lt 32 (length rules)) TooManyRules (option_or-none (fault_where (nat_lt 32 (length rules)) TooManyRules) (first_fault (rule_fault (length schema) numbers) [] rules) defs).0)
 
 -- and each of them is sound
-pub sound_rules : (classes : ℕ) (numbers : Numbers) (rules : List RuleDef) → rules_fault classes numbers rules ≡ None → All (IsSound classes numbers) rules
-unfolding rules_fault
-sound_rules classes numbers rules accepted k d lt =
-    let defs = (option_or-none (closures_fault numbers) (defs_fault classes numbers rules) accepted).1 in
-    let faultless = (option_or-none (fault_where (nat_lt 32 (length rules)) TooManyRules) (first_fault (rule_fault classes numbers) [] rules) defs).1 in
-    sound_rule classes numbers (take k rules) (get_or rules k d) (first_fault-none (rule_fault classes numbers) [] rules faultless k d lt)
+pub sound_rules : (schema : List ClassDef) (numbers : Numbers) (rules : List RuleDef) (harders : List Harder) → rules_fault schema numbers rules harders ≡ None → All (IsSound (length schema) numbers) rules
+sound_rules schema numbers rules harders accepted k d lt =
+    let defs = accepted_defs schema numbers rules harders accepted in
+    let faultless = (option_or-none (fault_where (nat_lt 32 (length rules)) TooManyRules) (first_fault (rule_fault (length schema) numbers) [] rules) defs).1 in
+    sound_rule (length schema) numbers (take k rules) (get_or rules k d) (first_fault-none (rule_fault (length schema) numbers) [] rules faultless k d lt)

@@ -10,7 +10,7 @@ use Rattle.std.proofs.lemmas.Grind.{common_steps}
 use Rattle.plan_rules.specs.declared.fault.ClosureKind.{ClosureKind}
 use Rattle.plan_rules.specs.declared.fault.RuleFault.TheVariants.{DoubleClosure}
 use Rattle.plan_rules.specs.Faults.{number_fault}
-use Rattle.plan_rules.specs.Range.{Capped, cap_of}
+use Rattle.plan_rules.specs.Range.{Capped, cap_of, cap_with}
 use Rattle.plan_rules.specs.declared.rule.RuleDef.{RuleDef}
 use Rattle.plan_rules.specs.Places.{place_of, ArePlaces}
 use Rattle.plan_rules.proofs.Positions.{position-push, is_some-position, find-position, position-map}
@@ -58,13 +58,25 @@ pub record StandsIn {X : Type 0} (xs : List X) (x : X) : Type 0 where
 stands_later : {X : Type 0} (x y : X) (xs : List X) → StandsIn xs y → StandsIn (x ∷ xs) y
 stands_later x y xs later = record { place = suc later.place; within = (let within = later.within in omega arith); at = later.at }
 
-found_stands : {X : Type 0} (p : X → Bool) (xs : List X) → IfSome (find p xs) (StandsIn xs)
+pub found_stands : {X : Type 0} (p : X → Bool) (xs : List X) → IfSome (find p xs) (StandsIn xs)
 found_stands p [] = tt
 found_stands p (x ∷ xs) =
     elim (p x) as (λ b. IfSome (cond b (Some x) (find p xs)) (StandsIn (x ∷ xs))) [
       | true ↦ record { place = 0; within = omega arith; at = refl }
       | false ↦ IfSome_then (find p xs) (found_stands p xs) (λ y later. stands_later x y xs later)
     ]
+
+found_first : {X : Type 0} (f : X → ℕ) (n : ℕ) (test : Bool) (y x : X) (later : Option X) → (f y == n) ≡ test → cond test (Some y) later ≡ Some x → (later ≡ Some x → f x ≡ n) → f x ≡ n
+found_first f n true y x later is found rest =
+    let same : y ≡ x = cc in
+    let equal : f y ≡ n = grind (arith, nat_tests) in
+    cc
+found_first f n false y x later is found rest = rest found
+
+-- what is found by a number has this number
+pub found_number : {X : Type 0} (f : X → ℕ) (n : ℕ) (xs : List X) (x : X) → Some x ≡ find (λ y. f y == n) xs → f x ≡ n
+found_number f n [] x found = cc
+found_number f n (y ∷ ys) x found = found_first f n (f y == n) y x (find (λ z. f z == n) ys) refl (sym found) (λ later. found_number f n ys x (sym later))
 
 -- and so does what a reference to it points to
 pub borrowed_stands : {X : Type 0} (p : X → Bool) (xs : List X) (r : Option (Bor X)) → option_copied r ≡ find p xs → IfSome r (λ x. StandsIn xs x.now)
@@ -80,10 +92,21 @@ mapped_cap : {X : Type 0} (number cap : X → ℕ) (o : Option X) → option_map
 mapped_cap number cap None = refl
 mapped_cap number cap (Some x) = refl
 
--- the cap of a rule, by what its weigher's number finds
+-- the cap of a number's weigher, by what is found by the number
+pub cap_with-found : {X : Type 0} (number cap : X → ℕ) (n : ℕ) (xs : List X) →
+    cap_with (map (λ x. record { number = number x; cap = cap x }) xs) n ≡ option_map_or cap (find (λ x. number x == n) xs) 1
+cap_with-found number cap n xs =
+    rw (find-map (λ (w : Capped). w.number == n) (λ x. record { number = number x; cap = cap x }) xs) (mapped_cap number cap (find (λ x. number x == n) xs))
+
+-- the cap of a rule, by what is found by its weigher's number
 pub cap_of-found : {X : Type 0} (number cap : X → ℕ) (rule : RuleDef) (n : ℕ) (xs : List X) → rule.weigh ≡ Some n →
     cap_of (map (λ x. record { number = number x; cap = cap x }) xs) rule ≡ option_map_or cap (find (λ x. number x == n) xs) 1
-cap_of-found number cap rule n xs is = rw (is, find-map (λ (w : Capped). w.number == n) (λ x. record { number = number x; cap = cap x }) xs) (mapped_cap number cap (find (λ x. number x == n) xs))
+cap_of-found number cap rule n xs is = rw is (cap_with-found number cap n xs)
+
+-- what is found by a number and is there has this number
+pub number_of_found : {X : Type 0} (f : X → ℕ) (n : ℕ) (xs : List X) (r : Option (Bor X)) → option_copied r ≡ find (λ x. f x == n) xs → IsSome r → option_map f (option_copied r) ≡ Some n
+number_of_found f n xs None is there = cc
+number_of_found f n xs (Some x) is there = ap Some (found_number f n xs x.now is)
 
 -- an item is found where some item passes
 is_some-find : {X : Type 0} (p : X → Bool) (xs : List X) → is_some (find p xs) ≡ list_any p xs

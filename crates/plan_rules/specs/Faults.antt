@@ -1,50 +1,52 @@
 -- What rules are refused for.
-use Rattle.std.specs.Prelude.{◌≡◌, ◌⊎◌, ◌==◌, ◌&&◌, ◌||◌, not, nat_lt, nat_le, ℕ, Bool, true, false, List, [], ◌∷◌, Option, Some, None, find, length, option_map, if◌then◌else◌}
-use Rattle.std.specs.Option.{option_or}
+use Rattle.std.specs.Prelude.{◌==◌, ◌&&◌, ◌||◌, not, nat_lt, nat_le, ℕ, Bool, true, false, List, [], ◌∷◌, Option, find, length, option_map, slice_get}
+use Rattle.std.specs.Option.{option_map_or, option_or}
 use Rattle.std.specs.Str.{bytes_eq}
 use Rattle.std.specs.List.{list_any}
-use Rattle.plan_facts.specs.First.{first_fault}
+use Rattle.plan_facts.specs.First.{fault_where, first_fault}
+use Rattle.plan_facts.specs.Limits.{weight_limit}
 use Rattle.plan_facts.specs.Schema.{is_name}
+use Rattle.plan_facts.specs.declared.record.ClassDef.{ClassDef}
 use Rattle.plan_rules.specs.declared.places.Numbers.{Numbers}
 use Rattle.plan_rules.specs.declared.rule.Named.{Named}
 use Rattle.plan_rules.specs.declared.rule.Node.{Node}
 use Rattle.plan_rules.specs.declared.rule.Node.TheVariants as node
 use Rattle.plan_rules.specs.declared.rule.RuleDef.{RuleDef}
+use Rattle.plan_rules.specs.declared.rule.Harder.{Harder}
+use Rattle.plan_rules.specs.declared.rule.Joiner.{Joiner}
 use Rattle.plan_rules.specs.declared.fault.ClosureKind.{ClosureKind}
 use Rattle.plan_rules.specs.declared.fault.ClosureKind.TheVariants as kind
 use Rattle.plan_rules.specs.declared.fault.RuleFault.{RuleFault}
-use Rattle.plan_rules.specs.declared.fault.RuleFault.TheVariants.{Memory, DoubleClosure, TooManyRules, BadName, WeightRange, TooManyNodes, UnknownClass, TooManyJoiners, KeyCount, TooManyParts, ClosureMissing}
-use Rattle.plan_rules.specs.Named.{head_joiners, node_joiners, classes_named, closures_named, head_parts, parts_after}
+use Rattle.plan_rules.specs.declared.fault.RuleFault.TheVariants.{DoubleClosure, TooManyRules, BadName, WeightRange, TooManyNodes, UnknownClass, TooManyJoiners, KeyCount, TooManyParts, ClosureMissing, BadHarder}
+use Rattle.plan_rules.specs.Named.{head_joiners, node_joiners, classes_named, closures_named, head_parts, key_named, parts_after}
 
 -- the numbers handed in of one kind
-abbrev pub numbers_of : Numbers → ClosureKind → List ℕ
-numbers_of numbers kind.Test = numbers.tests
-numbers_of numbers kind.Key = numbers.keys
-numbers_of numbers kind.Weigh = numbers.weighs
+abbrev pub numbers_in : Numbers → ClosureKind → List ℕ
+numbers_in numbers kind.Test = numbers.tests
+numbers_in numbers kind.Key = numbers.keys
+numbers_in numbers kind.Weigh = numbers.weighs
 
 -- a closure was handed in
 abbrev pub is_handed_in : Numbers → Named → Bool
-is_handed_in numbers named = list_any (λ number. number == named.number) (numbers_of numbers named.kind)
-
--- what a call refuses with: want of memory, or the fault that was found
-abbrev pub IsRefusal : Option RuleFault → RuleFault → Type 0
-IsRefusal found fault = (fault ≡ Memory) ⊎ (found ≡ Some fault)
-
--- a fault where a test holds
-abbrev pub fault_where : Bool → RuleFault → Option RuleFault
-fault_where test fault = if test then Some fault else None
+is_handed_in numbers named = list_any (λ number. number == named.number) (numbers_in numbers named.kind)
 
 -- the name is none that a rule may have, or is that of an earlier rule
 abbrev pub has_bad_name : List RuleDef → RuleDef → Bool
-has_bad_name earlier rule = not (is_name rule.name) || list_any (λ other. bytes_eq rule.name other.name) earlier
+has_bad_name earlier rule =
+    not (is_name rule.name) || list_any (λ other. bytes_eq rule.name other.name) earlier
 
 -- the first class that the rule names and that isn't among so many
 abbrev pub unknown_class : ℕ → RuleDef → Option ℕ
 unknown_class classes rule = find (λ class. nat_le classes class) (classes_named rule)
 
+-- there are more than 4 joiners
+abbrev pub are_too_many : List Joiner → Bool
+are_too_many joiners = nat_lt 4 (length joiners)
+
 -- the head or a node has more than 4 joiners
 abbrev pub has_too_many_joiners : RuleDef → Bool
-has_too_many_joiners rule = nat_lt 4 (length (head_joiners rule.head)) || list_any (λ node. nat_lt 4 (length (node_joiners node))) rule.nodes
+has_too_many_joiners rule =
+    are_too_many (head_joiners rule.head) || list_any (λ node. are_too_many (node_joiners node)) rule.nodes
 
 -- a group hasn't one or two keys
 abbrev pub has_bad_key_count : Node → Bool
@@ -65,7 +67,8 @@ appends_record (node.GroupBy keys collect) = false
 -- from rows with so many parts on, some node appends a record to rows that have 4 already
 abbrev pub lacks_room : ℕ → List Node → Bool
 lacks_room parts [] = false
-lacks_room parts (first ∷ rest) = (appends_record first && nat_le 4 parts) || lacks_room (parts_after parts first) rest
+lacks_room parts (first ∷ rest) =
+    (appends_record first && nat_le 4 parts) || lacks_room (parts_after parts first) rest
 
 -- a closure wasn't handed in
 abbrev pub is_missing : Numbers → Named → Bool
@@ -80,7 +83,7 @@ abbrev pub rule_fault : ℕ → Numbers → List RuleDef → RuleDef → Option 
 rule_fault classes numbers earlier rule =
     let n = length earlier in
     option_or (fault_where (has_bad_name earlier rule) (BadName n))
-    (option_or (fault_where (nat_lt 1000000 rule.weight) (WeightRange n))
+    (option_or (fault_where (nat_lt weight_limit rule.weight) (WeightRange n))
     (option_or (fault_where (nat_lt 7 (length rule.nodes)) (TooManyNodes n))
     (option_or (option_map (λ class. UnknownClass n class) (unknown_class classes rule))
     (option_or (fault_where (has_too_many_joiners rule) (TooManyJoiners n))
@@ -109,6 +112,29 @@ defs_fault classes numbers rules =
     option_or (fault_where (nat_lt 32 (length rules)) TooManyRules)
     (first_fault (rule_fault classes numbers) [] rules)
 
--- what rules over so many classes are refused for, the first that applies
-unfoldable pub rules_fault : ℕ → Numbers → List RuleDef → Option RuleFault
-rules_fault classes numbers rules = option_or (closures_fault numbers) (defs_fault classes numbers rules)
+-- the class with this number is there and has variables, so that its facts are entities
+abbrev pub has_entities : List ClassDef → ℕ → Bool
+has_entities schema class = option_map_or (λ c. nat_lt 0 (length c.vars)) (slice_get schema class) false
+
+-- a harder key's class has no entities or is that of an earlier one, or the key wasn't handed in
+abbrev pub is_bad_harder : List ClassDef → Numbers → List Harder → Harder → Bool
+is_bad_harder schema numbers earlier harder =
+    not (has_entities schema harder.class)
+    || list_any (λ other. other.class == harder.class) earlier
+    || is_missing numbers (key_named harder.key)
+
+-- what a harder key that stands after these is refused for
+abbrev pub harder_fault : List ClassDef → Numbers → List Harder → Harder → Option RuleFault
+harder_fault schema numbers earlier harder =
+    fault_where (is_bad_harder schema numbers earlier harder) (BadHarder harder.class)
+
+-- what harder keys are refused for: the first bad one
+abbrev pub harders_fault : List ClassDef → Numbers → List Harder → Option RuleFault
+harders_fault schema numbers harders = first_fault (harder_fault schema numbers) [] harders
+
+-- what rules over these classes are refused for, the first that applies
+unfoldable pub rules_fault : List ClassDef → Numbers → List RuleDef → List Harder → Option RuleFault
+rules_fault schema numbers rules harders =
+    option_or (closures_fault numbers)
+    (option_or (defs_fault (length schema) numbers rules)
+    (harders_fault schema numbers harders))

@@ -50,7 +50,8 @@ collected m (collect.Max key) rows = greatest_of (map (m.key_of key) rows)
 
 -- the row of a group: its key's numbers, then the collected one
 abbrev pub group_row : Meaning → List ℕ → Collect → List (List Part) → List ℤ → List Part
-group_row m keys collect rows key = map (λ n. Num n) key ++ Num (collected m collect (rows_with m keys rows key)) ∷ []
+group_row m keys collect rows key =
+    map (λ n. Num n) key ++ Num (collected m collect (rows_with m keys rows key)) ∷ []
 
 -- a row for each key that occurs, the keys increasing
 abbrev pub groups_of : Meaning → List ℕ → Collect → List (List Part) → List (List Part)

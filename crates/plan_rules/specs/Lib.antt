@@ -1,9 +1,16 @@
+pub mod Bags
+pub mod Closures
 pub mod Faults
 pub mod Groups
+pub mod Harder
+pub mod Laws
+pub mod Limits
 pub mod Meaning
 pub mod Named
+pub mod Order
 pub mod Places
 pub mod Range
 pub mod Rows
+pub mod Shared
 pub mod Sound
 pub mod Totals

@@ -87,7 +87,10 @@ weigh_closures (Some number) = weigher_named number ∷ []
 
 -- the closures that a rule names, in the order of head, nodes and weigher
 abbrev pub closures_named : RuleDef → List Named
-closures_named rule = flat_map joiner_closures (head_joiners rule.head) ++ flat_map node_closures rule.nodes ++ weigh_closures rule.weigh
+closures_named rule =
+    flat_map joiner_closures (head_joiners rule.head)
+    ++ flat_map node_closures rule.nodes
+    ++ weigh_closures rule.weigh
 
 -- how many parts a head's rows have
 abbrev pub head_parts : Head → ℕ

@@ -1,14 +1,16 @@
 -- Bounds on rows and on the score, from how many live facts each class has.
-use Rattle.std.specs.Prelude.{◌==◌, ◌≤◌, ◌-◌, ◌*◌, ◌/◌, ◌^◌, nat_lt, ℕ, Bool, List, [], ◌∷◌, map, zip, sum_by, find, Option, Some, None, length, if◌then◌else◌, slice_index_or}
+use Rattle.std.specs.Prelude.{◌≡◌, ◌==◌, ◌≤◌, ◌-◌, ◌*◌, ◌/◌, nat_lt, ℕ, Bool, List, [], ◌∷◌, map, zip, sum_by, find, All, Option, Some, None, length, if◌then◌else◌, slice_index_or}
 use Rattle.std.specs.Option.{option_or, option_map_or}
 use Rattle.std.specs.List.{list_any}
-use Rattle.plan_facts.specs.First.{first_fault}
+use Rattle.plan_facts.specs.First.{fault_where, first_fault}
+use Rattle.plan_facts.specs.Limits.{weight_limit}
 use Rattle.plan_facts.specs.Plan.{PlanView}
 use Rattle.plan_rules.specs.declared.rule.Head.{Head}
 use Rattle.plan_rules.specs.declared.rule.Head.TheVariants as head
 use Rattle.plan_rules.specs.declared.rule.Node.{Node}
 use Rattle.plan_rules.specs.declared.rule.Node.TheVariants as node
 use Rattle.plan_rules.specs.declared.rule.RuleDef.{RuleDef}
+use Rattle.plan_rules.specs.Limits.{row_limit, score_limit}
 use Rattle.plan_rules.specs.Rows.{Facts}
 use Rattle.plan_rules.specs.declared.fault.RangeFault.{RangeFault}
 use Rattle.plan_rules.specs.declared.fault.RangeFault.TheVariants.{RowsBound, ScoreRange}
@@ -62,9 +64,13 @@ pub record Capped : Type 0 where
   pub number : ℕ
   pub cap : ℕ
 
+-- the cap of the weigher with a number, or 1 where there is none
+abbrev pub cap_with : List Capped → ℕ → ℕ
+cap_with weighers number = option_map_or (λ w. w.cap) (find (λ w. w.number == number) weighers) 1
+
 -- the cap of a rule's match weight: that of its weigher, or 1 where it names none
 abbrev pub cap_of : List Capped → RuleDef → ℕ
-cap_of weighers rule = option_map_or (λ number. option_map_or (λ w. w.cap) (find (λ w. w.number == number) weighers) 1) rule.weigh 1
+cap_of weighers rule = option_map_or (cap_with weighers) rule.weigh 1
 
 -- a rule with its weight and the cap of its match weight
 pub record Weighed : Type 0 where
@@ -74,7 +80,8 @@ pub record Weighed : Type 0 where
 
 -- each rule with its weight and cap
 abbrev pub weighed : List RuleDef → List ℕ → List ℕ → List Weighed
-weighed rules weights caps = map (λ one. record { rule = one.0; weight = one.1.0; cap = one.1.1 }) (zip rules (zip weights caps))
+weighed rules weights caps =
+    map (λ one. record { rule = one.0; weight = one.1.0; cap = one.1.1 }) (zip rules (zip weights caps))
 
 -- as much as a rule can add up to
 abbrev pub impact_bound : List ℕ → Weighed → ℕ
@@ -86,14 +93,25 @@ score_bound sizes rules = sum_by (impact_bound sizes) rules
 
 -- a stream of the rule may have more than 2^32 rows
 abbrev pub has_too_many_rows : List ℕ → RuleDef → Bool
-has_too_many_rows sizes rule = list_any (nat_lt (2 ^ 32)) (stream_bounds sizes rule)
+has_too_many_rows sizes rule = list_any (nat_lt row_limit) (stream_bounds sizes rule)
+
+-- as many matches as a rule can have, where none of its streams may have too many rows
+abbrev pub rows_bound : List ℕ → RuleDef → Option ℕ
+rows_bound sizes rule = if has_too_many_rows sizes rule then None else Some (rule_bound sizes rule)
 
 -- the fault of a rule that stands after these: too many rows
 abbrev pub rows_fault : List ℕ → List RuleDef → RuleDef → Option RangeFault
-rows_fault sizes earlier rule = if has_too_many_rows sizes rule then Some (RowsBound (length earlier)) else None
+rows_fault sizes earlier rule = fault_where (has_too_many_rows sizes rule) (RowsBound (length earlier))
 
 -- the first rule with too many rows, or else a score that may pass 2^62
 abbrev pub range_fault_of : List ℕ → List RuleDef → List ℕ → List ℕ → Option RangeFault
 range_fault_of sizes rules weights caps =
     option_or (first_fault (rows_fault sizes) [] rules)
-    (if nat_lt (2 ^ 62) (score_bound sizes (weighed rules weights caps)) then Some ScoreRange else None)
+    (fault_where (nat_lt score_limit (score_bound sizes (weighed rules weights caps))) ScoreRange)
+
+-- rules may judge plans of these sizes under these weights: one weight for each rule, each at most a million, and neither
+-- rows nor score out of range
+pub record MayJudge (rules : List RuleDef) (caps weights' sizes : List ℕ) : Type 0 where
+  pub weights : length weights' ≡ length rules
+  pub few : All (λ weight. weight ≤ weight_limit) weights'
+  pub range : range_fault_of sizes rules weights' caps ≡ None

@@ -7,6 +7,7 @@ use Rattle.plan_rules.specs.declared.rule.Head.{Head}
 use Rattle.plan_rules.specs.declared.rule.Node.{Node}
 use Rattle.plan_rules.specs.declared.rule.RuleDef.{RuleDef}
 use Rattle.plan_rules.specs.Faults.{is_handed_in, has_bad_key_count, lacks_room}
+use Rattle.plan_facts.specs.Limits.{weight_limit}
 use Rattle.plan_rules.specs.Named.{head_class, head_joiners, head_parts, joiner_closures, node_class, node_joiners, node_closures, weigh_closures}
 
 -- a closure was handed in
@@ -28,7 +29,7 @@ pub record IsSoundNode (classes : ℕ) (numbers : Numbers) (node : Node) : Type 
 
 -- a rule has a weight of at most a million, at most 7 nodes, and room for each record that is appended
 pub record IsSound (classes : ℕ) (numbers : Numbers) (rule : RuleDef) : Type 0 where
-  pub weight : rule.weight ≤ 1000000
+  pub weight : rule.weight ≤ weight_limit
   pub few_nodes : length rule.nodes ≤ 7
   pub room : lacks_room (head_parts rule.head) rule.nodes ≡ false
   pub head : IsSoundHead classes numbers rule.head

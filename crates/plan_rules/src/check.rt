@@ -1,8 +1,9 @@
-ghost use Rattle.std.specs.Prelude.{◌≡◌, ◌≤◌, ◌<◌, nat_lt, false, length};
+ghost use Rattle.std.specs.Prelude.{◌≡◌, ◌≤◌, ◌<◌, false, length};
 ghost use Rattle.std.specs.List.{list_any};
 ghost use Rattle.std.specs.Str.{bytes_eq};
 ghost use Rattle.std.specs.Result.{result_err};
-ghost use Rattle.plan_rules.specs.Faults.{fault_where, defs_fault, rule_fault, has_bad_name, unknown_class, has_too_many_joiners, has_bad_key_count, appends_record, lacks_room};
+ghost use Rattle.plan_facts.specs.First.{fault_where};
+ghost use Rattle.plan_rules.specs.Faults.{defs_fault, rule_fault, has_bad_name, unknown_class, are_too_many, has_too_many_joiners, has_bad_key_count, appends_record, lacks_room};
 ghost use Rattle.plan_rules.specs.Named.{head_parts, node_joiners, parts_after};
 
 use crate::fault::RuleFault;
@@ -10,6 +11,9 @@ use crate::missing::missing_closure;
 use crate::places::Numbers;
 use crate::rule::{Head, Node, RuleDef};
 use plan_facts::is_name;
+
+/// The greatest weight of a rule.
+pub const WEIGHT_LIMIT: u32 = 1_000_000;
 
 /// The first fault of rules over so many classes and these closures.
 pub fn check_rules(classes: u8, numbers: &Numbers, rules: &[RuleDef]) -> Result<(), RuleFault>
@@ -34,7 +38,10 @@ fn check_rule(
 {
     let n = earlier.len() as u8;
     refuse_where(has_bad_name(earlier, rule), RuleFault::BadName { rule: n })?;
-    refuse_where(rule.weight > 1_000_000, RuleFault::WeightRange { rule: n })?;
+    refuse_where(
+        rule.weight > WEIGHT_LIMIT,
+        RuleFault::WeightRange { rule: n },
+    )?;
     refuse_where(rule.nodes.len() > 7, RuleFault::TooManyNodes { rule: n })?;
     if let Some(class) = unknown_class(classes, rule) {
         return Err(RuleFault::UnknownClass { rule: n, class });
@@ -105,7 +112,7 @@ fn has_too_many_joiners(rule: &RuleDef) -> bool
 }
 
 fn some_has_too_many_joiners(nodes: &[Node]) -> bool
-    ensures { result ≡ list_any (λ node. nat_lt 4 (length (node_joiners node))) nodes.now }
+    ensures { result ≡ list_any (λ node. are_too_many (node_joiners node)) nodes.now }
 {
     nodes.iter().any(|node| node.joiners().len() > 4)
 }

@@ -1,7 +1,6 @@
-ghost use Rattle.std.specs.Prelude.{◌≡◌, ◌+◌, ◌≤◌, ℕ, ℤ, Bool, List};
-ghost use Rattle.plan_rules.specs.declared.row.Part.{Part};
-ghost use Rattle.plan_rules.specs.Meaning.{IsKeyNumber, Meaning};
-ghost use denote.Ref.{Bor};
+ghost use Rattle.std.specs.Prelude.{◌≡◌, ◌+◌, ◌≤◌, ℕ, List};
+ghost use Rattle.plan_rules.specs.Limits.{cap_limit};
+ghost use Rattle.plan_rules.specs.Meaning.{IsKeyNumber, KeyAnswers, Meaning, TestAnswers, WeighAnswers};
 
 use crate::row::Row;
 use crate::steps::Steps;
@@ -17,6 +16,12 @@ pub trait Book: Drop + Send + Sync {
 pub trait Kept {
     /// Every answer that a closure here may give is the book's, and within its bounds.
     ghost keeps: { Self → Type 0 };
+}
+
+/// What may judge plans.
+pub trait Judges {
+    /// It answers as the book says, and may judge plans of these sizes under these weights, one for each rule.
+    ghost judges: { Self → List ℕ → List ℕ → Type 0 };
 }
 
 pub type TestBody = Box<dyn Fn(&Row) -> bool + Send + Sync>;
@@ -52,19 +57,20 @@ pub struct Weigh<B> {
     pub body: WeighBody,
     pub of: PhantomData<B>,
     pub ghost callable: { WeighBody.IsAlwaysCallable body },
-    pub ghost cap_in_range: { (1 ≤ cap) × (cap ≤ 1000000000) },
+    pub ghost cap_in_range: { (1 ≤ cap) × (cap ≤ cap_limit) },
 }
 
 impl<B: Book> Kept for Test<B> {
-    ghost keeps = { λ test. (r : Bor (List Part)) (answer : Bool) → TestBody.post test.body r answer → answer ≡ B.meaning.test_of test.number r.now };
+    ghost keeps = { λ test. TestAnswers (TestBody.post test.body) (B.meaning.test_of test.number) };
 }
 
 impl<B: Book> Kept for Key<B> {
-    ghost keeps = { λ key. (r : Bor (List Part)) (answer : ℤ) → KeyBody.post key.body r answer → (answer ≡ B.meaning.key_of key.number r.now) × IsKeyNumber answer };
+    ghost keeps = { λ key. KeyAnswers (KeyBody.post key.body) (B.meaning.key_of key.number) };
 }
 
 impl<B: Book> Kept for Weigh<B> {
-    ghost keeps = { λ weigh. (r : Bor (List Part)) (answer : ℕ) → WeighBody.post weigh.body r answer → (answer ≡ B.meaning.weight_of weigh.number r.now) × (answer ≤ weigh.cap) };
+    ghost keeps = { λ weigher.
+        WeighAnswers (WeighBody.post weigher.body) weigher.cap (B.meaning.weight_of weigher.number) };
 }
 
 impl<B> Test<B> {
@@ -126,7 +132,7 @@ impl<B> Weigh<B> {
     /// A weigher with this number, which gives at most `cap`.
     pub fn new(number: u16, cap: u32, body: WeighBody) -> Weigh<B>
         requires callable { WeighBody.IsAlwaysCallable body }
-        requires cap { (1 ≤ cap) × (cap ≤ 1000000000) }
+        requires cap { (1 ≤ cap) × (cap ≤ cap_limit) }
         ensures number { result.number ≡ number }
         ensures cap { result.cap ≡ cap }
         ensures body { result.body ≡ body }

@@ -12,8 +12,8 @@ pub enum ClosureKind {
     Weigh,
 }
 
-/// Why definitions and closures make no rules. Where several apply, the one listed first is given; from `BadName` on
-/// they are looked for rule by rule.
+/// Why definitions and closures make no rules. Where several apply, the one listed first is given; those from `BadName`
+/// to `ClosureMissing` are looked for rule by rule.
 #[derive(Clone, Copy, Debug, Drop, PartialEq, Eq)]
 pub enum RuleFault {
     /// Want of memory.
@@ -59,6 +59,11 @@ pub enum RuleFault {
         rule: u8,
         kind: ClosureKind,
         number: u16,
+    },
+    /// A harder key's class has no planning variables or already has a harder key, or the key wasn't handed in; the
+    /// first such class.
+    BadHarder {
+        class: u8,
     },
 }
 

@@ -21,7 +21,7 @@ pub fn missing_closure(numbers: &Numbers, rule: &RuleDef) -> Option<Named>
 }
 
 /// Whether the closure was handed in.
-fn is_handed_in(numbers: &Numbers, named: Named) -> bool
+pub fn is_handed_in(numbers: &Numbers, named: Named) -> bool
     ensures { result ≡ is_handed_in numbers.now named }
 {
     match named.kind {

@@ -35,13 +35,14 @@ impl Model for Places {
 
 impl Places {
     ghost use Rattle.std.specs.Prelude.{◌≡◌, ◌==◌, ◌∷◌, ◌++◌, [], ℕ, None, OnOk, IfOk, IfErr, position};
-    ghost use Rattle.plan_rules.specs.Faults.{IsRefusal, number_fault, double_closure};
+    ghost use Rattle.plan_facts.specs.Refusal.{IsRefusal};
+    ghost use Rattle.plan_rules.specs.Faults.{number_fault, double_closure};
 
     /// The numbers with their places, or the first one that stands earlier too.
     pub(crate) fn of(alloc: Global, kind: ClosureKind, numbers: &[u16]) -> Result<Places, RuleFault>
         ensures ok { IfOk result (λ places. places ≡ numbers.now) }
         ensures distinct { OnOk result (double_closure kind numbers.now ≡ None) }
-        ensures err { IfErr result (IsRefusal (double_closure kind numbers.now)) }
+        ensures err { IfErr result (IsRefusal RuleFault.Memory (double_closure kind numbers.now)) }
     {
         let mut places = Places::new(alloc);
         for number in numbers {
@@ -73,7 +74,7 @@ impl Places {
     fn enter(&mut self, kind: ClosureKind, number: u16) -> Result<(), RuleFault>
         ensures ok { OnOk result (self.new ≡ self.old ++ number ∷ []) }
         ensures new { OnOk result (number_fault kind self.old number ≡ None) }
-        ensures err { IfErr result (IsRefusal (number_fault kind self.old number)) }
+        ensures err { IfErr result (IsRefusal RuleFault.Memory (number_fault kind self.old number)) }
     {
         if self.place(number).is_some() {
             return Err(RuleFault::DoubleClosure { kind, number });

@@ -1,5 +1,6 @@
-ghost use Rattle.std.specs.Prelude.{◌≡◌, ◌*◌, ◌≤◌, ◌<◌, ◌^◌, None, Some, IfSome, length, if◌then◌else◌};
-ghost use Rattle.plan_rules.specs.Range.{size_of, head_bound, node_bound, has_too_many_rows, rule_bound, range_fault_of};
+ghost use Rattle.std.specs.Prelude.{◌≡◌, ◌*◌, ◌≤◌, ◌<◌, ◌^◌, IfSome, length};
+ghost use Rattle.plan_rules.specs.Limits.{row_limit};
+ghost use Rattle.plan_rules.specs.Range.{size_of, head_bound, node_bound, rows_bound, range_fault_of};
 
 use crate::fault::RangeFault;
 use crate::rule::{Head, Node, RuleDef};
@@ -37,7 +38,7 @@ pub fn first_range_fault(
 
 /// As much as a rule with so many rows can add up to.
 fn impact_bound(rows: u64, weight: u32, cap: u32) -> u128
-    requires { rows ≤ 2 ^ 32 }
+    requires { rows ≤ row_limit }
     ensures value { result ≡ rows * weight * cap }
     ensures bound { result ≤ 2 ^ 96 }
 {
@@ -46,8 +47,8 @@ fn impact_bound(rows: u64, weight: u32, cap: u32) -> u128
 
 /// As many matches as the rule can have; none where one of its streams may have too many rows.
 fn rows_of(sizes: &[u32], rule: &RuleDef) -> Option<u64>
-    ensures value { result ≡ (if has_too_many_rows sizes.now rule.now then None else Some (rule_bound sizes.now rule.now)) }
-    ensures bound { IfSome result (λ rows. rows ≤ 2 ^ 32) }
+    ensures value { result ≡ rows_bound sizes.now rule.now }
+    ensures bound { IfSome result (λ rows. rows ≤ row_limit) }
 {
     let mut rows = rows_of_head(sizes, &rule.head);
     for node in rule.nodes.as_slice() {
@@ -83,7 +84,7 @@ fn rows_of_head(sizes: &[u32], head: &Head) -> u64
 
 /// As many rows as there can be after the node.
 fn rows_after(sizes: &[u32], rows: u64, node: &Node) -> u64
-    requires { rows ≤ 2 ^ 32 }
+    requires { rows ≤ row_limit }
     ensures { result ≡ node_bound sizes.now rows node.now }
 {
     match node {

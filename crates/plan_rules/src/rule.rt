@@ -24,6 +24,14 @@ pub enum Joiner {
     Filtering(u16),
 }
 
+/// The key by which the entities of a class are placed: those with the greater key, which are harder, come first. It is
+/// asked of the row of an entity's record alone.
+#[derive(Clone, Copy, Drop)]
+pub struct Harder {
+    pub class: u8,
+    pub key: u16,
+}
+
 /// What a group makes of its rows, by the number of a key where one is named.
 #[derive(Clone, Copy, Drop)]
 pub enum Collect {

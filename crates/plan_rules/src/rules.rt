@@ -1,20 +1,25 @@
-ghost use Rattle.std.specs.Prelude.{◌≡◌, ◌==◌, ◌≤◌, ℕ, ℤ, Bool, List, All, None, IfOk, IfErr, IfSome, IsSome, find, length, map, option_copied, slice_get};
-ghost use Rattle.plan_rules.specs.declared.row.Part.{Part};
-ghost use Rattle.plan_rules.specs.Faults.{IsRefusal, closures_fault, rules_fault};
-ghost use Rattle.plan_rules.specs.Meaning.{IsKeyNumber};
+ghost use Rattle.std.specs.Prelude.{◌≡◌, ◌+◌, ◌≤◌, ℕ, List, All, None, IfOk, IfErr, IfSome, IsSome, OnOk, length, map, option_copied, option_map, slice_get};
+ghost use Rattle.plan_rules.specs.Closures.{capped, key_with, numbers_of, test_with, weigher_with};
+ghost use Rattle.plan_facts.specs.Refusal.{IsRefusal};
+ghost use Rattle.plan_rules.specs.Faults.{rules_fault};
+ghost use Rattle.plan_rules.specs.Harder.{harder_key};
+ghost use Rattle.plan_rules.specs.Meaning.{IsKeyNumber, KeyAnswers, TestAnswers, WeighAnswers};
 ghost use Rattle.plan_rules.specs.Named.{key_named, test_named, weigher_named};
-ghost use Rattle.plan_rules.specs.Range.{cap_of, range_fault_of};
+ghost use Rattle.plan_rules.specs.Range.{MayJudge, cap_of, cap_with, range_fault_of};
 ghost use Rattle.plan_rules.specs.Sound.{IsHandedIn, IsSound};
-ghost use denote.Ref.{Bor};
 
-use crate::check::check_rules;
-use crate::closures::{Book, Kept, Key, KeyBody, Test, TestBody, Weigh, WeighBody};
-use crate::fault::{ClosureKind, RangeFault, RuleFault};
-use crate::places::{Numbers, Places};
+use crate::closures::{Book, Judges, Kept, Key, KeyBody, Test, TestBody, Weigh, WeighBody};
+use crate::fault::{RangeFault, RuleFault};
+use crate::handed::{accepted_numbers, caps_of, names_of, weigher_at};
+use crate::harder::harder_key;
+use crate::places::Numbers;
 use crate::range::first_range_fault;
-use crate::rule::RuleDef;
-use plan_facts::{List, Schema};
+use crate::row::Row;
+use crate::rule::{Harder, RuleDef};
+use crate::steps::Steps;
+use plan_facts::{List, Schema, Text};
 use std::alloc::Global;
+use std::sync::ledger::Ledger;
 
 /// Rules over a schema, with the closures that they ask.
 #[derive(Drop)]
@@ -27,21 +32,33 @@ pub struct Rules<B> {
     pub tests: List<Test<B>>,
     pub keys: List<Key<B>>,
     pub weighs: List<Weigh<B>>,
+    /// The keys by which entities are placed, each class once.
+    pub harder: List<Harder>,
     /// The closures' numbers.
     pub numbers: Numbers,
+    /// The rules' names.
+    pub names: List<Text>,
     /// The cap of each rule's match weight: its weigher's, or 1 where it has none.
     pub caps: List<u32>,
-    pub ghost tests_at: { numbers.tests ≡ map (λ test. test.number) tests },
-    pub ghost keys_at: { numbers.keys ≡ map (λ key. key.number) keys },
-    pub ghost weighs_at: { numbers.weighs ≡ map (λ weigher. weigher.number) weighs },
-    pub ghost caps_are: { caps ≡ map (cap_of (map (λ weigher. record { number = weigher.number; cap = weigher.cap }) weighs)) defs },
-    pub ghost accepted: { rules_fault (length schema) numbers defs ≡ None },
+    pub ghost numbered: { numbers ≡ numbers_of tests keys weighs },
+    pub ghost named: { names ≡ map (λ def. def.name) defs },
+    pub ghost caps_are: { caps ≡ map (cap_of (capped weighs)) defs },
+    pub ghost accepted: { rules_fault schema numbers defs harder ≡ None },
 }
 
 impl<B: Book> Kept for Rules<B> {
-    ghost keeps = { λ rules. All (λ test. (r : Bor (List Part)) (answer : Bool) → TestBody.post test.body r answer → answer ≡ B.meaning.test_of test.number r.now) rules.tests
-        × All (λ key. (r : Bor (List Part)) (answer : ℤ) → KeyBody.post key.body r answer → (answer ≡ B.meaning.key_of key.number r.now) × IsKeyNumber answer) rules.keys
-        × All (λ weigher. (r : Bor (List Part)) (answer : ℕ) → WeighBody.post weigher.body r answer → (answer ≡ B.meaning.weight_of weigher.number r.now) × (answer ≤ weigher.cap)) rules.weighs };
+    ghost keeps = { λ rules.
+        All (λ test. TestAnswers (TestBody.post test.body) (B.meaning.test_of test.number)) rules.tests
+        × All (λ key. KeyAnswers (KeyBody.post key.body) (B.meaning.key_of key.number)) rules.keys
+        × All (λ w. WeighAnswers (WeighBody.post w.body) w.cap (B.meaning.weight_of w.number)) rules.weighs };
+}
+
+impl<B: Book> Judges for Rules<B> {
+    ghost judges = { λ rules weights sizes.
+        (All (λ test. TestAnswers (TestBody.post test.body) (B.meaning.test_of test.number)) rules.tests
+        × All (λ key. KeyAnswers (KeyBody.post key.body) (B.meaning.key_of key.number)) rules.keys
+        × All (λ w. WeighAnswers (WeighBody.post w.body) w.cap (B.meaning.weight_of w.number)) rules.weighs)
+        × MayJudge rules.defs rules.caps weights sizes };
 }
 
 impl<B: Book> Rules<B> {
@@ -53,19 +70,26 @@ impl<B: Book> Rules<B> {
         tests: List<Test<B>>,
         keys: List<Key<B>>,
         weighs: List<Weigh<B>>,
+        harder: List<Harder>,
     ) -> Result<Rules<B>, RuleFault>
         ensures schema { IfOk result (λ rules. rules.schema ≡ schema.now) }
         ensures defs { IfOk result (λ rules. rules.defs ≡ defs) }
         ensures tests { IfOk result (λ rules. rules.tests ≡ tests) }
         ensures keys { IfOk result (λ rules. rules.keys ≡ keys) }
         ensures weighs { IfOk result (λ rules. rules.weighs ≡ weighs) }
-        ensures ok { IfOk result (λ rules. rules_fault (length schema.now) (record { tests = map (λ test. test.number) tests; keys = map (λ key. key.number) keys; weighs = map (λ weigher. weigher.number) weighs }) defs ≡ None) }
-        ensures err { IfErr result (IsRefusal (rules_fault (length schema.now) (record { tests = map (λ test. test.number) tests; keys = map (λ key. key.number) keys; weighs = map (λ weigher. weigher.number) weighs }) defs)) }
+        ensures harder { IfOk result (λ rules. rules.harder ≡ harder) }
+        ensures ok { OnOk result (rules_fault schema.now (numbers_of tests keys weighs) defs harder ≡ None) }
+        ensures err { let numbers = numbers_of tests keys weighs in
+            IfErr result (IsRefusal RuleFault.Memory (rules_fault schema.now numbers defs harder)) }
 
         // The rules keep their word where each closure does.
-        ensures keeps { All (λ test. ⟦<Test<B> as Kept>⟧.keeps test) tests → All (λ key. ⟦<Key<B> as Kept>⟧.keeps key) keys → All (λ weigher. ⟦<Weigh<B> as Kept>⟧.keeps weigher) weighs → IfOk result (λ rules. ⟦<Rules<B> as Kept>⟧.keeps rules) }
+        ensures keeps { All (λ test. ⟦<Test<B> as Kept>⟧.keeps test) tests
+            → All (λ key. ⟦<Key<B> as Kept>⟧.keeps key) keys
+            → All (λ weigher. ⟦<Weigh<B> as Kept>⟧.keeps weigher) weighs
+            → IfOk result (λ rules. ⟦<Rules<B> as Kept>⟧.keeps rules) }
     {
-        let numbers = accepted_numbers(alloc, schema, &defs, &tests, &keys, &weighs)?;
+        let numbers = accepted_numbers(alloc, schema, &defs, &tests, &keys, &weighs, &harder)?;
+        let names = names_of(alloc, defs.as_slice())?;
         let caps = caps_of(alloc, defs.as_slice(), &weighs, &numbers.weighs)?;
         Ok(Rules {
             schema: schema.copy(alloc)?,
@@ -73,7 +97,9 @@ impl<B: Book> Rules<B> {
             tests,
             keys,
             weighs,
+            harder,
             numbers,
+            names,
             caps,
         })
     }
@@ -94,11 +120,19 @@ impl<B: Book> Rules<B> {
         self.defs.len() as u8
     }
 
+    /// The rules' names, in their order.
+    pub fn names(&self) -> &[Text]
+        ensures { result.now ≡ map (λ def. def.name) self.now.defs }
+    {
+        self.names.as_slice()
+    }
+
     /// The test with this number; none where none was handed in.
     pub fn test(&self, number: u16) -> Option<&Test<B>>
-        ensures found { option_copied result ≡ find (λ test. test.number == number) self.now.tests }
+        ensures found { option_copied result ≡ test_with self.now.tests number }
         ensures there { IsHandedIn self.now.numbers (test_named number) → IsSome result }
-        ensures keeps { ⟦<Rules<B> as Kept>⟧.keeps self.now → IfSome result (λ test. ⟦<Test<B> as Kept>⟧.keeps test.now) }
+        ensures keeps { ⟦<Rules<B> as Kept>⟧.keeps self.now
+            → IfSome result (λ test. ⟦<Test<B> as Kept>⟧.keeps test.now) }
     {
         match self.numbers.tests.place(number) {
             Some(place) => self.tests.get(place),
@@ -108,9 +142,10 @@ impl<B: Book> Rules<B> {
 
     /// The key with this number; none where none was handed in.
     pub fn key(&self, number: u16) -> Option<&Key<B>>
-        ensures found { option_copied result ≡ find (λ key. key.number == number) self.now.keys }
+        ensures found { option_copied result ≡ key_with self.now.keys number }
         ensures there { IsHandedIn self.now.numbers (key_named number) → IsSome result }
-        ensures keeps { ⟦<Rules<B> as Kept>⟧.keeps self.now → IfSome result (λ key. ⟦<Key<B> as Kept>⟧.keeps key.now) }
+        ensures keeps { ⟦<Rules<B> as Kept>⟧.keeps self.now
+            → IfSome result (λ key. ⟦<Key<B> as Kept>⟧.keeps key.now) }
     {
         match self.numbers.keys.place(number) {
             Some(place) => self.keys.get(place),
@@ -120,145 +155,75 @@ impl<B: Book> Rules<B> {
 
     /// The weigher with this number; none where none was handed in.
     pub fn weigher(&self, number: u16) -> Option<&Weigh<B>>
-        ensures found { option_copied result ≡ find (λ weigher. weigher.number == number) self.now.weighs }
+        ensures found { option_copied result ≡ weigher_with self.now.weighs number }
         ensures there { IsHandedIn self.now.numbers (weigher_named number) → IsSome result }
-        ensures keeps { ⟦<Rules<B> as Kept>⟧.keeps self.now → IfSome result (λ weigher. ⟦<Weigh<B> as Kept>⟧.keeps weigher.now) }
+        ensures keeps { ⟦<Rules<B> as Kept>⟧.keeps self.now
+            → IfSome result (λ weigher. ⟦<Weigh<B> as Kept>⟧.keeps weigher.now) }
     {
         weigher_at(&self.weighs, &self.numbers.weighs, number)
     }
 
-    /// Why a plan with so many live facts of each class may have too many rows or too great a score under these
-    /// weights, one for each rule: the first rule with a stream of more than 2^32 rows, or else a sum of rows, weight
-    /// and cap past 2^62.
+    /// The key by which the entities of a class are placed; none where it has none.
+    pub fn harder(&self, class: u8) -> Option<&Key<B>>
+        ensures number { option_map (λ key. key.number) (option_copied result) ≡ harder_key self.now.harder class }
+        ensures keeps { ⟦<Rules<B> as Kept>⟧.keeps self.now
+            → IfSome result (λ key. ⟦<Key<B> as Kept>⟧.keeps key.now) }
+    {
+        match harder_key(self.harder.as_slice(), class) {
+            Some(number) => self.key(number),
+            None => None,
+        }
+    }
+
+    /// Whether the test with this number, which was handed in, holds at the row. It counts as one step.
+    pub fn test_of<L: Ledger>(&self, number: u16, row: &Row, steps: &mut Steps<L>) -> bool
+        requires keeps { ⟦<Rules<B> as Kept>⟧.keeps self.now }
+        requires there { IsHandedIn self.now.numbers (test_named number) }
+        ensures value { result ≡ B.meaning.test_of number row.now }
+        ensures cost { steps.new ≡ steps.old + 1 }
+    {
+        let Some(test) = self.test(number) else {
+            unreachable!();
+        };
+        test.call(row, steps)
+    }
+
+    /// The key with this number, which was handed in, of the row: from -10^9 to 10^9. It counts as one step.
+    pub fn key_of<L: Ledger>(&self, number: u16, row: &Row, steps: &mut Steps<L>) -> i64
+        requires keeps { ⟦<Rules<B> as Kept>⟧.keeps self.now }
+        requires there { IsHandedIn self.now.numbers (key_named number) }
+        ensures value { result ≡ B.meaning.key_of number row.now }
+        ensures range { IsKeyNumber result }
+        ensures cost { steps.new ≡ steps.old + 1 }
+    {
+        let Some(key) = self.key(number) else {
+            unreachable!();
+        };
+        key.call(row, steps)
+    }
+
+    /// The weight that the weigher with this number, which was handed in, gives the row: at most its cap. It counts as
+    /// one step.
+    pub fn match_weight_of<L: Ledger>(&self, number: u16, row: &Row, steps: &mut Steps<L>) -> u32
+        requires keeps { ⟦<Rules<B> as Kept>⟧.keeps self.now }
+        requires there { IsHandedIn self.now.numbers (weigher_named number) }
+        ensures value { result ≡ B.meaning.weight_of number row.now }
+        ensures range { result ≤ cap_with (capped self.now.weighs) number }
+        ensures cost { steps.new ≡ steps.old + 1 }
+    {
+        let Some(weigher) = self.weigher(number) else {
+            unreachable!();
+        };
+        weigher.call(row, steps)
+    }
+
+    /// Why a plan with so many live facts of each class, at most 100,000 each, may have too many rows or too great a
+    /// score under these weights, one for each rule: the first rule with a stream of more than 2^32 rows, or else a sum
+    /// of rows, weight and cap past 2^62.
     pub fn range_fault(&self, sizes: &[u32], weights: &[u32]) -> Option<RangeFault>
         requires { length weights.now ≡ length self.now.defs }
         ensures { result ≡ range_fault_of sizes.now self.now.defs weights.now self.now.caps }
     {
         first_range_fault(sizes, self.defs.as_slice(), weights, self.caps.as_slice())
-    }
-}
-
-/// The numbers of the closures, where rules and closures are accepted.
-fn accepted_numbers<B>(
-    alloc: Global,
-    schema: &Schema,
-    defs: &List<RuleDef>,
-    tests: &List<Test<B>>,
-    keys: &List<Key<B>>,
-    weighs: &List<Weigh<B>>,
-) -> Result<Numbers, RuleFault>
-    ensures ok { IfOk result (λ numbers. numbers ≡ record { tests = map (λ test. test.number) tests.now; keys = map (λ key. key.number) keys.now; weighs = map (λ weigher. weigher.number) weighs.now }) }
-    ensures accepted { IfOk result (λ numbers. rules_fault (length schema.now) numbers defs.now ≡ None) }
-    ensures err { IfErr result (IsRefusal (rules_fault (length schema.now) (record { tests = map (λ test. test.number) tests.now; keys = map (λ key. key.number) keys.now; weighs = map (λ weigher. weigher.number) weighs.now }) defs.now)) }
-{
-    let numbers = numbers_of(alloc, tests, keys, weighs)?;
-    check_rules(schema.classes(), &numbers, defs.as_slice())?;
-    Ok(numbers)
-}
-
-/// The numbers of the closures, or the first that has the number of an earlier one of its kind.
-fn numbers_of<B>(
-    alloc: Global,
-    tests: &List<Test<B>>,
-    keys: &List<Key<B>>,
-    weighs: &List<Weigh<B>>,
-) -> Result<Numbers, RuleFault>
-    ensures ok { IfOk result (λ numbers. numbers ≡ record { tests = map (λ test. test.number) tests.now; keys = map (λ key. key.number) keys.now; weighs = map (λ weigher. weigher.number) weighs.now }) }
-    ensures distinct { IfOk result (λ numbers. closures_fault numbers ≡ None) }
-    ensures err { IfErr result (IsRefusal (closures_fault (record { tests = map (λ test. test.number) tests.now; keys = map (λ key. key.number) keys.now; weighs = map (λ weigher. weigher.number) weighs.now }))) }
-{
-    let of_tests = numbers_of_tests(alloc, tests)?;
-    let tests = Places::of(alloc, ClosureKind::Test, of_tests.as_slice())?;
-    let of_keys = numbers_of_keys(alloc, keys)?;
-    let keys = Places::of(alloc, ClosureKind::Key, of_keys.as_slice())?;
-    let of_weighs = numbers_of_weighs(alloc, weighs)?;
-    let weighs = Places::of(alloc, ClosureKind::Weigh, of_weighs.as_slice())?;
-    Ok(Numbers {
-        tests,
-        keys,
-        weighs,
-    })
-}
-
-/// The numbers of the tests.
-fn numbers_of_tests<B>(alloc: Global, tests: &List<Test<B>>) -> Result<List<u16>, RuleFault>
-    ensures ok { IfOk result (λ numbers. numbers ≡ map (λ test. test.number) tests.now) }
-    ensures err { IfErr result (λ fault. fault ≡ RuleFault.Memory) }
-{
-    let mut numbers = List::new(alloc);
-    for test in tests.as_slice() {
-        numbers.push(test.number)?;
-    }
-    Ok(numbers)
-}
-
-/// The numbers of the keys.
-fn numbers_of_keys<B>(alloc: Global, keys: &List<Key<B>>) -> Result<List<u16>, RuleFault>
-    ensures ok { IfOk result (λ numbers. numbers ≡ map (λ key. key.number) keys.now) }
-    ensures err { IfErr result (λ fault. fault ≡ RuleFault.Memory) }
-{
-    let mut numbers = List::new(alloc);
-    for key in keys.as_slice() {
-        numbers.push(key.number)?;
-    }
-    Ok(numbers)
-}
-
-/// The numbers of the weighers.
-fn numbers_of_weighs<B>(alloc: Global, weighs: &List<Weigh<B>>) -> Result<List<u16>, RuleFault>
-    ensures ok { IfOk result (λ numbers. numbers ≡ map (λ weigher. weigher.number) weighs.now) }
-    ensures err { IfErr result (λ fault. fault ≡ RuleFault.Memory) }
-{
-    let mut numbers = List::new(alloc);
-    for weigher in weighs.as_slice() {
-        numbers.push(weigher.number)?;
-    }
-    Ok(numbers)
-}
-
-/// The cap of each rule's match weight.
-fn caps_of<B>(
-    alloc: Global,
-    defs: &[RuleDef],
-    weighs: &List<Weigh<B>>,
-    places: &Places,
-) -> Result<List<u32>, RuleFault>
-    requires { places.now ≡ map (λ weigher. weigher.number) weighs.now }
-    ensures ok { IfOk result (λ caps. caps ≡ map (cap_of (map (λ weigher. record { number = weigher.number; cap = weigher.cap }) weighs.now)) defs.now) }
-    ensures err { IfErr result (λ fault. fault ≡ RuleFault.Memory) }
-{
-    let mut caps = List::new(alloc);
-    for rule in defs {
-        caps.push(cap_of(rule, weighs, places))?;
-    }
-    Ok(caps)
-}
-
-/// The cap of the rule's match weight: its weigher's, or 1 where it has none.
-fn cap_of<B>(rule: &RuleDef, weighs: &List<Weigh<B>>, places: &Places) -> u32
-    requires { places.now ≡ map (λ weigher. weigher.number) weighs.now }
-    ensures { result ≡ cap_of (map (λ weigher. record { number = weigher.number; cap = weigher.cap }) weighs.now) rule.now }
-{
-    let Some(number) = rule.weigh else {
-        return 1;
-    };
-    match weigher_at(weighs, places, number) {
-        Some(weigher) => weigher.cap,
-        None => 1,
-    }
-}
-
-/// The weigher with this number.
-fn weigher_at<'a, B>(
-    weighs: &'a List<Weigh<B>>,
-    places: &Places,
-    number: u16,
-) -> Option<&'a Weigh<B>>
-    requires { places.now ≡ map (λ weigher. weigher.number) weighs.now }
-    ensures { option_copied result ≡ find (λ weigher. weigher.number == number) weighs.now }
-{
-    match places.place(number) {
-        Some(place) => weighs.get(place),
-        None => None,
     }
 }

@@ -1,5 +1,5 @@
 -- The best of a list by a score, the first of equals.
-use Rattle.std.specs.Prelude.{◌≡◌, ◌⊎◌, Bool, true, false, IsTrue, List, [], ◌∷◌, ◌++◌, fold, All, Option, Some, None, if◌then◌else◌}
+use Rattle.std.specs.Prelude.{◌≡◌, IsTrue, List, [], ◌∷◌, ◌++◌, fold, All, Option, Some, None, if◌then◌else◌}
 use Rattle.plan_scores.specs.declared.plan_score.PlanScore.{PlanScore}
 use Rattle.plan_scores.specs.Order.{is_better_plan, is_worse_plan, is_no_worse_plan}
 
@@ -28,3 +28,8 @@ pub record IsFirstBest {A : Type 0} (score : A → PlanScore) (all : List A) (on
   pub place : StandsBetween all one
   pub better : All (λ other. IsTrue (is_worse_plan (score other) (score one))) place.before
   pub as_good : All (λ other. IsTrue (is_no_worse_plan (score one) (score other))) place.after
+
+-- a first best is a member that is better than each before it and no worse than each after it
+abbrev pub FirstBestIsFirst : Type 0 → Type 0
+FirstBestIsFirst A =
+    (score : A → PlanScore) (all : List A) (one : A) → first_best score all ≡ Some one → IsFirstBest score all one

@@ -40,9 +40,13 @@ is_no_better_plan a b = is_le (plan_score_cmp a b)
 abbrev pub is_no_worse_plan : PlanScore → PlanScore → Bool
 is_no_worse_plan a b = is_ge (plan_score_cmp a b)
 
+-- the score a is less at the first of the medium and the soft level at which the two differ
+abbrev pub IsLessBelowHard : Score → Score → Type 0
+IsLessBelowHard a b = (a.medium <ℤ b.medium) ⊎ ((a.medium ≡ b.medium) × (a.soft <ℤ b.soft))
+
 -- the score a is less at the first level at which the two differ
 abbrev pub IsLessFirst : Score → Score → Type 0
-IsLessFirst a b = (a.hard <ℤ b.hard) ⊎ ((a.hard ≡ b.hard) × ((a.medium <ℤ b.medium) ⊎ ((a.medium ≡ b.medium) × (a.soft <ℤ b.soft))))
+IsLessFirst a b = (a.hard <ℤ b.hard) ⊎ ((a.hard ≡ b.hard) × IsLessBelowHard a b)
 
 -- the plan of a has more null variables, or as many and a worse score
 abbrev pub IsLessPlaced : PlanScore → PlanScore → Type 0

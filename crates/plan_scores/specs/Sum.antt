@@ -52,10 +52,12 @@ SumsJoin = (xs ys : List Score) → sum_of (xs ++ ys) ≡ add_scores (sum_of xs)
 
 -- impacts at one level add up to the sum of their numbers there, as rewards and as penalties
 abbrev pub RewardsAddUp : Type 0
-RewardsAddUp = (level : Level) (weights : List ℕ) → sum_of (map (λ w. score_at level (pos w)) weights) ≡ score_at level (pos (sum weights))
+RewardsAddUp = (level : Level) (weights : List ℕ)
+    → sum_of (map (λ w. score_at level (pos w)) weights) ≡ score_at level (pos (sum weights))
 
 abbrev pub PenaltiesAddUp : Type 0
-PenaltiesAddUp = (level : Level) (weights : List ℕ) → sum_of (map (λ w. score_at level (neg_ℤ (pos w))) weights) ≡ score_at level (neg_ℤ (pos (sum weights)))
+PenaltiesAddUp = (level : Level) (weights : List ℕ)
+    → sum_of (map (λ w. score_at level (neg_ℤ (pos w))) weights) ≡ score_at level (neg_ℤ (pos (sum weights)))
 
 -- a sum of two is within the sum of their bounds, and what is within a bound below 2^63 fits
 abbrev pub BoundsAddUp : Type 0

@@ -6,9 +6,11 @@ use Rattle.plan_scores.specs.declared.plan_score.PlanScore.{PlanScore}
 
 -- three whole numbers, as in -1hard/0medium/5soft
 abbrev pub score_text : Score → List ℕ
-score_text s = signed_decimal s.hard ++ codes "hard/" ++ signed_decimal s.medium ++ codes "medium/" ++ signed_decimal s.soft ++ codes "soft"
+score_text s =
+    signed_decimal s.hard ++ codes "hard/" ++ signed_decimal s.medium ++ codes "medium/"
+    ++ signed_decimal s.soft ++ codes "soft"
 
--- how many variables are null, as in -2init/, and nothing where none is
+-- how many variables are null that may not stay so, as in -2init/, and nothing where none is
 abbrev pub unplaced_text : ℕ → List ℕ
 unplaced_text n = if n == 0 then [] else codes "-" ++ decimal n ++ codes "init/"
 

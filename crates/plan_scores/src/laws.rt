@@ -1,6 +1,7 @@
 // Laws of the definitions that the other contracts of this crate cite.
 ghost use Rattle.std.specs.Cmp.{IsTotalOrder};
 ghost use Rattle.plan_scores.specs.Order.{score_cmp, plan_score_cmp, TellsApart, WorseIsLessFirst, WorseIsLessPlaced};
+ghost use Rattle.plan_scores.specs.Best.{FirstBestIsFirst};
 ghost use Rattle.plan_scores.specs.Sum.{AddingCanBeUndone, TakingAwayCanBeUndone, SumsJoin, RewardsAddUp, PenaltiesAddUp, BoundsAddUp, WithinFits};
 
 /// Scores stand in one order, by the first level at which two of them differ.
@@ -26,4 +27,9 @@ pub fn scores_add_up()
     ensures penalties { PenaltiesAddUp }
     ensures bounds { BoundsAddUp }
     ensures fits { WithinFits }
+{}
+
+/// The first best of a list is better than each member before it, and no worse than each after it.
+pub fn first_best_is_first<T>()
+    ensures { FirstBestIsFirst T }
 {}

@@ -9,7 +9,7 @@ mod score;
 #[cfg(test)]
 mod tests;
 
-pub use laws::{plan_scores_are_ordered, scores_add_up, scores_are_ordered};
+pub use laws::{first_best_is_first, plan_scores_are_ordered, scores_add_up, scores_are_ordered};
 pub use level::Level;
 pub use memory::Memory;
 pub use plan_score::PlanScore;

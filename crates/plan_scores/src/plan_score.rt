@@ -4,13 +4,13 @@ ghost use Rattle.std.specs.Cmp.{partial_order_from_agreeing_total};
 ghost use Rattle.std.specs.Ordering.{as_partial_cmp};
 ghost use Rattle.plan_scores.specs.Order.{plan_score_cmp};
 ghost use Rattle.plan_scores.specs.Text.{plan_score_text, unplaced_text};
-ghost use Rattle.plan_scores.specs.Total.{plan_score_cmp_total, plan_score_cmp-eq};
+ghost use Rattle.plan_scores.specs.Total.{plan_score_cmp_total, plan_cmp-eq};
 
 use crate::{Memory, Score};
 use itoa::Buffer;
 use std::cmp::Ordering;
 
-/// The score of a plan, and how many of its variables are null. Fewer null variables are better
+/// The score of a plan, and how many of its variables are null that may not stay so. Fewer of these are better
 /// before all else, then the scores are compared; the greater of two is the better one.
 #[derive(Clone, Copy, Debug, PartialEq, Eq)]
 pub struct PlanScore {
@@ -25,7 +25,7 @@ impl Ord for PlanScore {
 
     ghost matches_partial_cmp = { λ _ _. refl };
 
-    ghost matches_eq = { plan_score_cmp-eq };
+    ghost matches_eq = { plan_cmp-eq };
 
     fn cmp(&self, other: &PlanScore) -> Ordering {
         other
@@ -38,7 +38,7 @@ impl Ord for PlanScore {
 impl PartialOrd for PlanScore {
     ghost partial_cmp = { as_partial_cmp plan_score_cmp };
 
-    ghost laws = { partial_order_from_agreeing_total plan_score_cmp plan_score_cmp_total (λ _ _. refl) plan_score_cmp-eq };
+    ghost laws = { partial_order_from_agreeing_total plan_score_cmp plan_score_cmp_total (λ _ _. refl) plan_cmp-eq };
 
     fn partial_cmp(&self, other: &PlanScore) -> Option<Ordering> {
         Some(self.cmp(other))
@@ -46,8 +46,8 @@ impl PartialOrd for PlanScore {
 }
 
 impl PlanScore {
-    /// Appends the text, as in `-2init/-1hard/0medium/5soft`, or without its first part where no
-    /// variable is null. Without memory for it nothing is appended.
+    /// Appends the text, as in `-2init/-1hard/0medium/5soft`, or without its first part where none
+    /// is null that may not stay so. Without memory for it nothing is appended.
     pub fn write_text(&self, out: &mut Vec<u8>) -> Result<(), Memory>
         ensures ok { OnOk result (out.new.items ≡ out.old.items ++ plan_score_text self.now) }
         ensures err { OnErr result (out.new.items ≡ out.old.items) }

@@ -12,7 +12,7 @@ use Rattle.plan_search.specs.Placing.{combinations}
 use Rattle.plan_search.specs.Laws.{product_of}
 
 -- each choice before each of the combinations of the rest
-abbrev chosen_first : List Set → List (List Set) → List (List Set)
+abbrev pub chosen_first : {A : Type 0} → List A → List (List A) → List (List A)
 chosen_first choices rest = flat_map (λ choice. map (λ sets. choice ∷ sets) rest) choices
 
 -- each choice stands before each of the rest

@@ -1,2 +1,10 @@
+pub mod Awaiting
 pub mod Chosen
+pub mod ClassByClass
+pub mod HarderFirst
+pub mod InOrderLaws
+pub mod Legs
 pub mod Placings
+pub mod Quiet
+pub mod RestLaws
+pub mod Winning

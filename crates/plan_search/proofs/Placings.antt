@@ -1,5 +1,5 @@
 -- The course of a placing: which entities it comes to, and the plan that it leaves.
-use Rattle.std.proofs.Common.{◌≡◌, List, [], ◌∷◌, ◌++◌, map, Contains, Option, Some, None, refl, sym, ap, subst}
+use Rattle.std.proofs.Common.{◌≡◌, List, [], ◌∷◌, ◌++◌, Contains, Option, Some, None, refl, sym, ap, subst}
 use Rattle.plan_scores.specs.declared.plan_score.PlanScore.{PlanScore}
 use Rattle.plan_scores.specs.Best.{first_best}
 use Rattle.plan_facts.specs.Plan.{PlanView}
@@ -7,19 +7,22 @@ use Rattle.plan_moves.specs.declared.edit.Set.{Set}
 use Rattle.plan_moves.specs.declared.edit.Touch.{Touch}
 use Rattle.plan_moves.specs.Edits.{applied}
 use Rattle.plan_search.specs.declared.placed.Placed.{Placed}
-use Rattle.plan_search.specs.Placing.{Placing, before, best_edit, choices_of, null_places, placed_in, placing_edits, placing_of, values_of}
-use Rattle.plan_search.specs.Laws.{EndsAsPlaced, GoesThrough, IsAsIn, joined}
+use Rattle.plan_search.specs.Placing.{Placing, before, best_edit, null_choices, placed_in, placing_edits, placing_of}
+use Rattle.plan_search.specs.Laws.{EndsAsPlaced, GoesOnWith, GoesThrough, IsAsIn, IsStuckWithoutEdit}
 use Rattle.plan_search.proofs.Chosen.{combined_none, first_best-none, none_combined}
 
--- an entity without a best edit has a null variable with no value to choose
-pub no_choice : (score : PlanView → PlanScore) (plan : PlanView) (entity : Touch) → best_edit score plan entity ≡ None → Contains (map (choices_of plan entity) (null_places (values_of plan entity))) []
+-- an entity without a best edit has a null variable with no choice
+pub no_choice : (score : PlanView → PlanScore) (plan : PlanView) (entity : Touch)
+    → best_edit score plan entity ≡ None → Contains (null_choices plan entity) []
 unfolding best_edit
-no_choice score plan entity h = combined_none (map (choices_of plan entity) (null_places (values_of plan entity))) (first_best-none (λ sets. score (applied plan sets)) (placing_edits plan entity) h)
+no_choice score plan entity h =
+    combined_none (null_choices plan entity) (first_best-none (λ sets. score (applied plan sets)) (placing_edits plan entity) h)
 
--- an entity with a null variable that has no value to choose has no best edit
-pub no_edit : (score : PlanView → PlanScore) (plan : PlanView) (entity : Touch) → Contains (map (choices_of plan entity) (null_places (values_of plan entity))) [] → best_edit score plan entity ≡ None
+-- an entity with a null variable that has no choice has no best edit
+pub no_edit : (score : PlanView → PlanScore) (plan : PlanView) (entity : Touch)
+    → Contains (null_choices plan entity) [] → best_edit score plan entity ≡ None
 unfolding best_edit
-no_edit score plan entity h = ap (first_best (λ sets. score (applied plan sets))) (none_combined (map (choices_of plan entity) (null_places (values_of plan entity))) h)
+no_edit score plan entity h = ap (first_best (λ sets. score (applied plan sets))) (none_combined (null_choices plan entity) h)
 
 -- where a placing is stuck at once
 abbrev stuck_at : PlanView → Touch → Placing
@@ -41,20 +44,20 @@ pub placing_of-in_order : (score : PlanView → PlanScore) (plan : PlanView) (to
 placing_of-in_order score plan [] = record { after = []; is = refl; all = λ e. refl }
 placing_of-in_order score plan (entity ∷ rest) = in_order_with score plan entity rest (best_edit score plan entity) (λ sets. placing_of-in_order score (applied plan sets) rest)
 
--- a placing that is stuck at an entity has no edit for it in its last plan
-abbrev HasNoEdit : (PlanView → PlanScore) → Placing → Touch → Type 0
-HasNoEdit score placing stuck = placing.stuck ≡ Some stuck → best_edit score placing.plan stuck ≡ None
-
 -- the first entity has no edit, or the rest is stuck
-stuck_with : (score : PlanView → PlanScore) (plan : PlanView) (entity : Touch) (rest : List Touch) (stuck : Touch) (edit : Option (List Set)) → best_edit score plan entity ≡ edit
-    → ((sets : List Set) → HasNoEdit score (placing_of score (applied plan sets) rest) stuck) → HasNoEdit score (placing_with score plan entity rest edit) stuck
-stuck_with score plan entity rest stuck None is more = λ e. let same : entity ≡ stuck = cc in subst (λ one. best_edit score plan one ≡ None) same is
-stuck_with score plan entity rest stuck (Some sets) is more = more sets
+stuck_with : (score : PlanView → PlanScore) (plan : PlanView) (entity : Touch) (rest : List Touch) (edit : Option (List Set))
+    → best_edit score plan entity ≡ edit → ((sets : List Set) → IsStuckWithoutEdit score (placing_of score (applied plan sets) rest))
+    → IsStuckWithoutEdit score (placing_with score plan entity rest edit)
+stuck_with score plan entity rest None is more =
+    λ stuck e. let same : entity ≡ stuck = cc in subst (λ one. best_edit score plan one ≡ None) same is
+stuck_with score plan entity rest (Some sets) is more = more sets
 
 -- the entity at which a placing is stuck has no best edit in the last plan
-pub placing_of-stuck : (score : PlanView → PlanScore) (plan : PlanView) (todo : List Touch) (stuck : Touch) → HasNoEdit score (placing_of score plan todo) stuck
-placing_of-stuck score plan [] stuck = λ e. cc
-placing_of-stuck score plan (entity ∷ rest) stuck = stuck_with score plan entity rest stuck (best_edit score plan entity) refl (λ sets. placing_of-stuck score (applied plan sets) rest stuck)
+pub placing_of-stuck : (score : PlanView → PlanScore) (plan : PlanView) (todo : List Touch)
+    → IsStuckWithoutEdit score (placing_of score plan todo)
+placing_of-stuck score plan [] = λ stuck e. cc
+placing_of-stuck score plan (entity ∷ rest) =
+    stuck_with score plan entity rest (best_edit score plan entity) refl (λ sets. placing_of-stuck score (applied plan sets) rest)
 
 -- an entity is placed by its best edit
 pub placing_of-best : (score : PlanView → PlanScore) (plan : PlanView) (entity : Touch) (sets : List Set) → best_edit score plan entity ≡ Some sets → (placing_of score plan (entity ∷ [])).plan ≡ applied plan sets
@@ -95,10 +98,6 @@ leaves_with score plan entity rest (Some sets) more =
 pub placing_of-leaves : (score : PlanView → PlanScore) (plan : PlanView) (todo : List Touch) → EndsAsPlaced score plan (placing_of score plan todo)
 placing_of-leaves score plan [] = ends_at_once score plan None
 placing_of-leaves score plan (entity ∷ rest) = leaves_with score plan entity rest (best_edit score plan entity) (λ sets. placing_of-leaves score (applied plan sets) rest)
-
--- a placing that is not stuck goes on with more entities
-abbrev GoesOnWith : (PlanView → PlanScore) → List Touch → Placing → Placing → Type 0
-GoesOnWith score more placing whole = placing.stuck ≡ None → whole ≡ joined placing (placing_of score placing.plan more)
 
 -- the first entity is stuck, or the rest goes on
 append_with : (score : PlanView → PlanScore) (plan : PlanView) (entity : Touch) (rest more : List Touch) (edit : Option (List Set))

@@ -1,5 +1,12 @@
+pub mod Game
+pub mod InOrder
+pub mod Judging
 pub mod Laws
+pub mod Leg
 pub mod Placing
 pub mod Posed
+pub mod Quiet
 pub mod Run
 pub mod RunLines
+pub mod Todo
+pub mod TodoLaws

@@ -1,28 +1,43 @@
--- The one-thread search: a list of legs, each from a plan that is placed and then searched step by step.
-use Rattle.std.specs.Prelude.{ℕ, List, [], ◌∷◌}
-use Rattle.plan_scores.specs.declared.plan_score.PlanScore.{PlanScore}
-use Rattle.plan_facts.specs.Plan.{PlanView}
-use Rattle.plan_search.specs.Posed.{Posed, plan_score}
-use Rattle.plan_search.specs.Placing.{Placing, placed_plan}
+-- The one-thread search: a list of legs, from the lines that were taken at each boundary.
+use Rattle.std.specs.Prelude.{ℕ, List, [], ◌∷◌, ◌++◌, length, map, Option}
+use Rattle.plan_settings.specs.declared.settings.Settings.{Settings}
+use Rattle.plan_search.specs.Game.{Game}
+use Rattle.plan_search.specs.Leg.{Leg, best_of, leg_from, state_of, stepped}
 
--- a leg: the boundary at which it begins, its placing, its start score, and its best plan
-pub record Leg : Type 0 where
-  pub boundary : ℕ
-  pub placing : Placing
-  pub start : PlanScore
-  pub best : PlanView
+module _ {State Line : Type 0} where
+  -- a boundary's cut takes lines: where it is the first, or takes some, a leg begins with the best state of the leg before
+  abbrev pub cut_at : Game State Line → ℕ → List Line → List (Leg State Line) → List (Leg State Line)
+  cut_at g boundary lines [] = leg_from g boundary lines g.origin ∷ []
+  cut_at g boundary [] (leg ∷ older) = leg ∷ older
+  cut_at g boundary (line ∷ lines) (leg ∷ older) =
+      leg_from g boundary (line ∷ lines) (best_of g leg) ∷ leg ∷ older
 
--- a leg without steps, from a plan: placed, that plan is its best
-abbrev pub leg_from : Posed → ℕ → PlanView → Leg
-leg_from posed boundary plan =
-    let placing = placed_plan (plan_score posed) plan in
-    record { boundary = boundary; placing = placing; start = plan_score posed placing.plan; best = placing.plan }
+  -- the newest leg goes on by a step
+  abbrev pub step_newest : Game State Line → Settings → ℕ → List (Leg State Line) → List (Leg State Line)
+  step_newest g settings k [] = []
+  step_newest g settings k (leg ∷ older) = stepped g settings k leg ∷ older
 
--- the legs of a run without steps and changes: one, at boundary 0, from the plan as read
-unfoldable pub legs_of : Posed → List Leg
-legs_of posed = leg_from posed 0 posed.plan ∷ []
+  -- the run up to the newest cut: its legs, the newest first, from the lines that each boundary's cut took, the newest first
+  abbrev pub run_to_cut : Game State Line → Settings → List (List Line) → List (Leg State Line)
+  run_to_cut g settings [] = []
+  run_to_cut g settings (lines ∷ older) =
+      cut_at g (length older) lines (step_newest g settings (length older) (run_to_cut g settings older))
 
--- the best plan of a run: that of its last leg
-abbrev pub best_plan : PlanView → List Leg → PlanView
-best_plan plan [] = plan
-best_plan plan (leg ∷ rest) = best_plan leg.best rest
+  -- the same with the step after the newest cut
+  abbrev pub run_to_step : Game State Line → Settings → List (List Line) → List (Leg State Line)
+  run_to_step g settings cuts = step_newest g settings (length cuts) (run_to_cut g settings cuts)
+
+  -- the state that a run stands at
+  abbrev pub state_in : Game State Line → List (Leg State Line) → State
+  state_in g [] = g.origin
+  state_in g (leg ∷ older) = state_of leg
+
+  -- the best state of a run: that of its newest leg
+  abbrev pub best_in : Game State Line → List (Leg State Line) → State
+  best_in g [] = g.origin
+  best_in g (leg ∷ older) = best_of g leg
+
+  -- the number of each step's winner, in order
+  abbrev pub winners : List (Leg State Line) → List (Option ℕ)
+  winners [] = []
+  winners (leg ∷ older) = winners older ++ map (λ step. step.winner) leg.steps

@@ -1,16 +1,17 @@
 -- The lines that a command prints.
-use Rattle.std.specs.Prelude.{ℕ, List, [], ◌∷◌, ◌++◌, Option, Some, None, map, flat_map, length}
+use Rattle.std.specs.Prelude.{ℕ, List, [], ◌∷◌, ◌++◌, Option, Some, None, map, flat_map, fold, length, replicate}
 use Rattle.std.specs.List.{enumerate_from}
 use Rattle.plan_scores.specs.declared.plan_score.PlanScore.{PlanScore}
+use Rattle.plan_facts.specs.declared.record.Raw.{Raw}
 use Rattle.plan_facts.specs.Plan.{PlanView, records_of}
 use Rattle.plan_rules.specs.declared.row.Match.{Match}
 use Rattle.plan_rules.specs.Totals.{all_matches, impact_sum}
 use Rattle.plan_moves.specs.declared.edit.Touch.{Touch}
-use Rattle.plan_search.specs.declared.placed.Entity.{Entity}
+use Rattle.plan_moves.specs.Entities.{entities_of, values_of}
 use Rattle.plan_search.specs.declared.placed.Placed.{Placed}
-use Rattle.plan_search.specs.Posed.{Posed, plan_score}
-use Rattle.plan_search.specs.Placing.{Placing, entities_of}
-use Rattle.plan_search.specs.Run.{Leg, legs_of, best_plan}
+use Rattle.plan_search.specs.Leg.{Leg, Stepped}
+use Rattle.plan_search.specs.Posed.{Posed, State, game_of, placing_from, state_score}
+use Rattle.plan_search.specs.Run.{best_in, run_to_cut}
 use Rattle.plan_reports.specs.declared.line.Line.{Line}
 use Rattle.plan_reports.specs.declared.line.Line.TheVariants as line
 use Rattle.plan_reports.specs.Lines.{lines_text}
@@ -24,17 +25,60 @@ abbrev pub stuck_lines : Option Touch → List Line
 stuck_lines None = []
 stuck_lines (Some entity) = line.Stuck entity.class entity.id ∷ []
 
--- the lines of a leg: where it begins, each placing, and the start score
-abbrev pub leg_lines : Leg → List Line
-leg_lines leg = line.Leg leg.boundary ∷ map place_line leg.placing.placed ++ stuck_lines leg.placing.stuck ++ line.Start leg.start ∷ []
+-- the lines of a placing: each entity that was placed, and the one at which it was stuck, if any
+abbrev pub placing_lines : List Placed → Option Touch → List Line
+placing_lines placed stuck = map place_line placed ++ stuck_lines stuck
 
--- the line of an entity of the best plan
-abbrev pub entity_line : Entity → Line
-entity_line e = line.Entity e.class e.id e.values
+-- the line of a step: its winner, if any, and the score after it
+abbrev pub step_line : Posed → Stepped State → Line
+step_line posed step = line.Step step.step step.winner (state_score posed step.after) step.is_best
 
--- a line for each entity of a plan
+-- what a feed's lines are to a search: what one makes of a state, and the lines that say so
+pub record Feed (Change : Type 0) : Type 0 where
+  pub handle : State → Change → State
+  pub tells : State → Change → List Line
+
+-- no feed
+abbrev pub no_feed : Feed ⊥
+no_feed = record { handle = λ state change. state; tells = λ state change. [] }
+
+-- the lines that say what became of a feed's lines, handled in order
+abbrev pub handled_lines : {Change : Type 0} → Feed Change → State → List Change → List Line
+handled_lines feed state [] = []
+handled_lines feed state (change ∷ rest) =
+    feed.tells state change ++ handled_lines feed (feed.handle state change) rest
+
+-- the state of a leg after its feed's lines, before its placing
+abbrev pub handled_in : {Change : Type 0} → Feed Change → Leg State Change → State
+handled_in feed leg = fold feed.handle leg.origin leg.lines
+
+-- the lines of a leg up to its start score: its boundary, what became of its feed's lines, and its placing
+abbrev pub opening_lines : {Change : Type 0} → Feed Change → Posed → Leg State Change → List Line
+opening_lines feed posed leg =
+    let placing = placing_from posed (handled_in feed leg) in
+    line.Leg leg.boundary ∷ handled_lines feed leg.origin leg.lines
+    ++ placing_lines placing.placed placing.stuck ++ line.Start (state_score posed leg.start) ∷ []
+
+-- the lines of a leg so far
+abbrev pub leg_lines : {Change : Type 0} → Feed Change → Posed → Leg State Change → List Line
+leg_lines feed posed leg = opening_lines feed posed leg ++ map (step_line posed) leg.steps
+
+-- the lines of some legs, the newest first, in their order
+abbrev pub legs_lines : {Change : Type 0} → Feed Change → Posed → List (Leg State Change) → List Line
+legs_lines feed posed [] = []
+legs_lines feed posed (leg ∷ older) = legs_lines feed posed older ++ leg_lines feed posed leg
+
+-- the line of an entity of a plan
+abbrev pub entity_line : PlanView → Touch → Line
+entity_line plan entity = line.Entity entity.class entity.id (values_of plan entity)
+
+-- the line of an entity of a class, by its record
+abbrev pub record_line : ℕ → Raw → Line
+record_line class raw = line.Entity class raw.id raw.values
+
+-- a line for each entity of a plan, in entity order
 abbrev pub entity_lines : PlanView → List Line
-entity_lines plan = map entity_line (entities_of plan)
+entity_lines plan = map (entity_line plan) (entities_of plan)
 
 -- the line of a rule: how many matches it has, and the sum of their impacts
 abbrev pub rule_line : ℕ → List Match → Line
@@ -56,29 +100,39 @@ matches_lines matches = flat_map (λ pair. rule_lines pair.0 pair.1) (enumerate_
 abbrev pub sums_lines : List (List Match) → List Line
 sums_lines matches = map (λ pair. rule_line pair.0 pair.1) (enumerate_from 0 matches)
 
--- the matches of each rule in a plan
-abbrev pub matches_in : Posed → PlanView → List (List Match)
-matches_in posed plan = all_matches posed.meaning (records_of plan) posed.rules posed.weights
+-- the matches of each rule in a state
+abbrev pub matches_in : Posed → State → List (List Match)
+matches_in posed state = all_matches posed.meaning (records_of state.plan) posed.rules state.weights
 
 -- the lines of a best plan: its score, its entities, its rules with their matches
 abbrev pub best_lines : PlanScore → PlanView → List (List Match) → List Line
 best_lines score plan matches = line.Best score ∷ entity_lines plan ++ matches_lines matches ++ line.End ∷ []
 
--- the lines of a posed problem's best plan
-abbrev pub best_lines_of : Posed → PlanView → List Line
-best_lines_of posed plan = best_lines (plan_score posed plan) plan (matches_in posed plan)
+-- the lines of a posed problem's best state
+abbrev pub best_lines_of : Posed → State → List Line
+best_lines_of posed state = best_lines (state_score posed state) state.plan (matches_in posed state)
 
--- the lines of a run
-abbrev pub run_lines : Posed → List Leg → List Line
-run_lines posed legs = line.Run posed.name ∷ flat_map leg_lines legs ++ best_lines_of posed (best_plan posed.plan legs)
+-- the lines of a run with these legs, the newest first
+abbrev pub run_lines : {Change : Type 0} → Feed Change → Posed → List (Leg State Change) → List Line
+run_lines feed posed legs =
+    line.Run posed.name ∷ legs_lines feed posed legs ++ best_lines_of posed (best_in (game_of feed.handle posed) legs)
 
 -- the text of some lines under the posed problem's names
 abbrev pub text_of : Posed → List Line → List ℕ
 text_of posed lines = lines_text posed.classes posed.rules lines
 
--- what `solve` prints
+-- the legs of a run of all steps whose boundaries took these lines, the newest first
+abbrev pub legs_of : {Change : Type 0} → Feed Change → Posed → List (List Change) → List (Leg State Change)
+legs_of feed posed cuts = run_to_cut (game_of feed.handle posed) posed.settings cuts
+
+-- what the boundaries of a run of so many steps take where there is no feed: nothing, that before the first step too
+abbrev pub quiet_cuts : ℕ → List (List ⊥)
+quiet_cuts steps = [] ∷ replicate steps []
+
+-- what `solve` prints without a feed
 unfoldable pub solve_text : Posed → List ℕ
-solve_text posed = text_of posed (run_lines posed (legs_of posed))
+solve_text posed =
+    text_of posed (run_lines no_feed posed (legs_of no_feed posed (quiet_cuts posed.settings.steps)))
 
 -- the lines of a plan's score: the score, and each rule
 abbrev pub score_lines : PlanScore → List (List Match) → List Line
@@ -86,4 +140,4 @@ score_lines score matches = line.Total score ∷ sums_lines matches ++ line.End 
 
 -- what `score` prints: the score of the plan as read, and each rule
 unfoldable pub score_text : Posed → List ℕ
-score_text posed = text_of posed (score_lines (plan_score posed posed.plan) (matches_in posed posed.plan))
+score_text posed = text_of posed (score_lines (state_score posed posed.origin) (matches_in posed posed.origin))

@@ -1,33 +1,17 @@
--- What the program's words are answered with.
-use Rattle.std.specs.Prelude.{◌≡◌, ◌⊎◌, ℕ, nat_lt, Bool, true, false, List, [], Option, Some, None, option_and_then, Result, Ok, Err, codes, slice_index_or, if◌then◌else◌}
-use Rattle.plan_words.specs.Command.{command}
-use Rattle.plan_words.specs.declared.command.Command.{Command}
-use Rattle.plan_words.specs.declared.command.Command.TheVariants.{Solve, Replay, Score, Explain, Gen, Tour}
+-- Which text is due, and under which status.
+use Rattle.std.specs.Prelude.{◌≡◌, ℕ, List, Option, Some, None, Ok, Err, codes, slice_get}
+use Rattle.plan_ports.specs.Outside.{FailsAt, Holds, ShelfState}
 use Rattle.plan_rules.specs.Meaning.{Meaning}
+use Rattle.move_selectors.specs.Candidates.{Made}
 use Rattle.problem_faults.specs.declared.fault.ProblemFault.{ProblemFault}
 use Rattle.problem_faults.specs.Words.{refusal_line}
-use Rattle.plan_json.specs.Problem.{DomainView, ProblemView, problem_of}
-use Rattle.plan_search.specs.Posed.{Posed}
-use Rattle.plan_search.specs.RunLines.{score_text, solve_text}
-
--- what a command asks for: the problem of this name, and the text that is due for it
-pub record Task : Type 0 where
-  pub name : List ℕ
-  pub text : Posed → List ℕ
-
--- the commands that are built so far: `solve` without a feed, and `score`
-abbrev pub task_of : Command → Option Task
-task_of (Solve name None workers buffer) = Some (record { name = name; text = solve_text })
-task_of (Solve name (Some feed) workers buffer) = None
-task_of (Replay name feed journal) = None
-task_of (Score name) = Some (record { name = name; text = score_text })
-task_of (Explain name) = None
-task_of (Gen number size) = None
-task_of (Tour number size workers buffer) = None
-
--- the task that the words ask for; none where they are no command, or none that is built
-unfoldable pub task_asked : List (List ℕ) → Option Task
-task_asked words = option_and_then task_of (command words)
+use Rattle.plan_json.specs.Domains.{DomainView}
+use Rattle.plan_json.specs.Problem.{ProblemView, problem_of}
+use Rattle.plan_texts.specs.Posed.{posed_in}
+use Rattle.plan_session.specs.declared.task.Wanted.{Wanted}
+use Rattle.plan_session.specs.declared.status.Status.{Status}
+use Rattle.plan_session.specs.declared.status.Status.TheVariants as status
+use Rattle.plan_session.specs.Task.{Task, text_wanted}
 
 -- the line that says that the words are no command
 abbrev pub usage_line : List ℕ
@@ -37,51 +21,77 @@ usage_line = codes "refused usage\n"
 abbrev pub source_line : List ℕ
 source_line = codes "refused source\n"
 
--- the line that says that problems with steps aren't solved yet
-abbrev pub unbuilt_line : List ℕ
-unbuilt_line = codes "refused problem unbuilt\n"
+-- a run as contracts see it: what its words ask for, the domains that problems may be of, the makers of moves of each, what
+-- the closures of their rules mean, and its shelf before and after it
+pub record Run : Type 0 where
+  pub asked : Option Task
+  pub domains : List DomainView
+  pub makers : List (List Made)
+  pub meaning : Meaning
+  pub shelf : ShelfState
+  pub shelf_after : ShelfState
 
--- a problem as it is posed: its domain's name, classes and rules, and what they mean
-abbrev pub posed_in : Meaning → DomainView → ProblemView → Posed
-posed_in meaning domain p =
-    record { name = domain.name; classes = domain.classes; rules = domain.rules; meaning = meaning; weights = p.weights; plan = p.plan }
+-- what is due for a problem of a domain with these makers: what is wanted of it
+abbrev pub DueForProblem : Meaning → List Made → Wanted → DomainView → ProblemView → Status → List ℕ → Type 0
+DueForProblem meaning makers wanted domain problem status.Ok text =
+    text ≡ text_wanted wanted (posed_in meaning makers domain problem)
+DueForProblem meaning makers wanted domain problem _ text = ⊥
 
--- a domain without anything
-abbrev pub no_domain : DomainView
-no_domain = record { name = []; classes = []; rules = []; caps = [] }
+-- the bytes are a problem, and the text is what is wanted of it
+pub record Answers (domains : List DomainView) (makers : List (List Made)) (meaning : Meaning) (wanted : Wanted)
+    (bytes text : List ℕ) : Type 0 where
+  pub problem : ProblemView
+  pub domain : DomainView
+  pub made : List Made
+  pub accepted : problem_of domains bytes ≡ Ok problem
+  pub stands : slice_get domains problem.domain ≡ Some domain
+  pub makes : slice_get makers problem.domain ≡ Some made
+  pub says : text ≡ text_wanted wanted (posed_in meaning made domain problem)
 
--- a problem that is to be searched step by step, which isn't built yet
-abbrev pub has_steps : ProblemView → Bool
-has_steps p = nat_lt 0 p.settings.steps
-
--- what is due for a problem of this domain
-abbrev pub answer_due : Meaning → (Posed → List ℕ) → DomainView → ProblemView → List ℕ
-answer_due meaning text domain p = if has_steps p then unbuilt_line else text (posed_in meaning domain p)
-
--- what is due for a problem, or for its refusal
-abbrev pub due_for : Meaning → List DomainView → (Posed → List ℕ) → Result ProblemView ProblemFault → List ℕ
-due_for meaning domains text (Err fault) = refusal_line fault
-due_for meaning domains text (Ok p) = answer_due meaning text (slice_index_or domains p.domain no_domain) p
+-- the bytes are refused, and the line says what for
+pub record Refuses (domains : List DomainView) (bytes line : List ℕ) : Type 0 where
+  pub fault : ProblemFault
+  pub refused : problem_of domains bytes ≡ Err fault
+  pub says : line ≡ refusal_line fault
 
 -- what is due for the bytes of a problem
-unfoldable pub due_of_bytes : Meaning → List DomainView → (Posed → List ℕ) → List ℕ → List ℕ
-due_of_bytes meaning domains text bytes = due_for meaning domains text (problem_of domains bytes)
+abbrev pub DueForBytes : List DomainView → List (List Made) → Meaning → Wanted → List ℕ → Status → List ℕ → Type 0
+DueForBytes domains makers meaning wanted bytes status.Ok text = Answers domains makers meaning wanted bytes text
+DueForBytes domains makers meaning wanted bytes status.Problem text = Refuses domains bytes text
+DueForBytes domains makers meaning wanted bytes _ text = ⊥
 
--- the bytes are a problem without steps
-abbrev pub IsAnswered : List DomainView → List ℕ → Type 0
-IsAnswered domains bytes = (p : ProblemView) × (problem_of domains bytes ≡ Ok p) × (has_steps p ≡ false)
+-- 0: the problem was read, and the text is what is wanted of it
+pub record DueOk (run : Run) (text : List ℕ) : Type 0 where
+  pub task : Task
+  pub bytes : List ℕ
+  pub asked : run.asked ≡ Some task
+  pub held : Holds run.shelf task.name bytes
+  pub answers : Answers run.domains run.makers run.meaning task.wanted bytes text
 
--- the problem is refused, or isn't built yet
-abbrev pub IsRefused : List DomainView → List ℕ → Type 0
-IsRefused domains bytes =
-    ((fault : ProblemFault) × (problem_of domains bytes ≡ Err fault)) ⊎ ((p : ProblemView) × (problem_of domains bytes ≡ Ok p) × (has_steps p ≡ true))
+-- 2: the words are no command that is built
+pub record DueUsage (run : Run) (text : List ℕ) : Type 0 where
+  pub unasked : run.asked ≡ None
+  pub says : text ≡ usage_line
 
--- what is due where the shelf holds these bytes under a name
-abbrev pub due_of_file : Meaning → List DomainView → (Posed → List ℕ) → Option (List ℕ) → List ℕ
-due_of_file meaning domains text None = source_line
-due_of_file meaning domains text (Some bytes) = due_of_bytes meaning domains text bytes
+-- 3: the shelf failed at the problem's name, which isn't sound
+pub record DueSource (run : Run) (text : List ℕ) : Type 0 where
+  pub task : Task
+  pub asked : run.asked ≡ Some task
+  pub fails : FailsAt task.name run.shelf run.shelf_after
+  pub says : text ≡ source_line
 
--- what is due for a task, where the shelf holds these bytes under each name
-abbrev pub due_of_task : Meaning → List DomainView → Option Task → (List ℕ → Option (List ℕ)) → List ℕ
-due_of_task meaning domains None bytes_of = usage_line
-due_of_task meaning domains (Some task) bytes_of = due_of_file meaning domains task.text (bytes_of task.name)
+-- 4: the problem was read, and is refused
+pub record DueProblem (run : Run) (line : List ℕ) : Type 0 where
+  pub task : Task
+  pub bytes : List ℕ
+  pub asked : run.asked ≡ Some task
+  pub held : Holds run.shelf task.name bytes
+  pub refuses : Refuses run.domains bytes line
+
+-- the text that is due in a run under a status
+abbrev pub IsDue : Run → Status → List ℕ → Type 0
+IsDue run status.Ok text = DueOk run text
+IsDue run status.Usage text = DueUsage run text
+IsDue run status.Source text = DueSource run text
+IsDue run status.Problem text = DueProblem run text
+IsDue run _ text = ⊥

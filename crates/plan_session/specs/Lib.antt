@@ -1,3 +1,4 @@
 pub mod Due
+pub mod Ending
 pub mod Status
-pub mod Wanted
+pub mod Task

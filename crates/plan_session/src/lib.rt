@@ -1,9 +1,10 @@
-//! Sessions: a command is read, its problem fetched and judged, and the text that is due is written.
+//! Sessions: a command is read, its problem fetched and judged, and what is due is written.
 #![tactic(auto)]
 
 mod answer;
 mod outside;
 mod status;
+mod task;
 #[cfg(test)]
 mod tests;
 mod top;

@@ -1,5 +1,6 @@
-ghost use Rattle.std.specs.Prelude.{◌≡◌, ◌≢◌, ◌≤◌, ◌<◌, ◌++◌, ◌⊎◌, ℕ, List, true, false, length, Some, IsErrOf, IfOk};
-ghost use Rattle.plan_ports.specs.Outside.{AppendsFront, Rose};
+ghost use Rattle.std.specs.Prelude.{◌≡◌, ◌≢◌, ◌<◌, ℕ, List, length, IfOk, IsErrOf};
+ghost use Rattle.plan_ports.specs.Outside.{FailsAt, Holds, LaterShelf, LaterSink};
+ghost use Rattle.plan_session.specs.Ending.{Ended, Says};
 
 use crate::status::Status;
 use plan_ports::{PortFault, ReadFault, Shelf, Sink, put_all, read_all};
@@ -8,13 +9,14 @@ use std::alloc::Global;
 /// The most bytes that a problem may have.
 const BYTE_LIMIT: u64 = 67_108_864;
 
-/// Opens the file of this name, reads it to its end, and closes it.
+/// Opens the file of this name, reads it to its end, and gives it back.
 pub fn fetch<S: Shelf>(alloc: Global, shelf: &mut S, name: &[u8]) -> Result<Vec<u8>, ReadFault>
-    ensures bytes { IfOk result (λ bytes. S.tells shelf.old ≡ true → S.bytes_of shelf.old name.now ≡ Some bytes.items) }
-    ensures too_long { IsErrOf result ReadFault.TooLong → S.tells shelf.old ≡ true →
-        (bytes : List ℕ) × (S.bytes_of shelf.old name.now ≡ Some bytes) × (67108864 < length bytes) }
-    ensures failed { IsErrOf result ReadFault.Failed →
-        Rose (S.faults shelf.old) (S.faults shelf.new) × (S.is_sound shelf.old name.now ≡ false) }
+    ensures bytes { IfOk result (λ bytes. Holds (S.state shelf.old) name.now bytes.items) }
+    ensures too_long { IsErrOf result ReadFault.TooLong →
+        (bytes : List ℕ) × Holds (S.state shelf.old) name.now bytes × (BYTE_LIMIT < length bytes) }
+    ensures failed { IsErrOf result ReadFault.Failed → FailsAt name.now (S.state shelf.old) (S.state shelf.new) }
+    ensures given_back { (S.state shelf.new).lent ≡ (S.state shelf.old).lent }
+    ensures later { LaterShelf (S.state shelf.old) (S.state shelf.new) }
 {
     let mut file = match shelf.open(name) {
         Ok(file) => file,
@@ -28,11 +30,8 @@ pub fn fetch<S: Shelf>(alloc: Global, shelf: &mut S, name: &[u8]) -> Result<Vec<
 
 /// Writes a whole text, and answers the status; or that memory or the sink lacked.
 pub fn say<K: Sink>(out: &mut K, status: Status, text: &[u8]) -> Status
-    requires { (status ≢ Status.Memory) × (status ≢ Status.Write) }
-    ensures cases { (result ≡ status) ⊎ (result ≡ Status.Memory) ⊎ (result ≡ Status.Write) }
-    ensures whole { result ≡ status → K.tells out.old ≡ true → K.written out.new ≡ K.written out.old ++ text.now }
-    ensures front { K.tells out.old ≡ true → AppendsFront text.now (K.written out.old) (K.written out.new) }
-    ensures write { result ≡ Status.Write → Rose (K.faults out.old) (K.faults out.new) }
+    ensures ended { Ended (Says status text.now) (K.state out.old) (K.state out.new) result }
+    ensures later { LaterSink (K.state out.old) (K.state out.new) }
 {
     match put_all(out, text) {
         Ok(()) => status,

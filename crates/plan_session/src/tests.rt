@@ -45,6 +45,7 @@ fn class_of(
         class.vars.push(VarDef {
             name,
             values: *values,
+            nullable: false,
         })?;
     }
     Ok(class)
@@ -95,6 +96,7 @@ fn school(alloc: Global) -> Result<Domain<Silent>, Fail>
         List::new(alloc),
         List::new(alloc),
         List::new(alloc),
+        List::new(alloc),
     )?;
     Ok(Domain::new(name, schema, rules, Vec::new(alloc)))
 }
@@ -111,21 +113,21 @@ fn shelf(alloc: Global, bytes: &[u8], fail: &[u32]) -> Result<MemShelf, Memory> 
     Ok(MemShelf::new(alloc, files, Vec::from_slice(alloc, fail)?))
 }
 
-fn words_of(alloc: Global, texts: &[&str]) -> Result<Vec<Text>, Memory> {
+fn words_of(alloc: Global, line: &str) -> Result<Vec<Text>, Memory> {
     let mut words = Vec::new(alloc);
-    for text in texts {
-        words.push(Text::from_slice(alloc, text.as_bytes())?)?;
+    for word in line.split_whitespace() {
+        words.push(Text::from_slice(alloc, word.as_bytes())?)?;
     }
     Ok(words)
 }
 
-/// What the program's words are, the bytes of `p`, the opens and the puts that fail; then what is written and the status.
+/// The program's words, the text of `p`, the opens and the puts that fail; then what is written, and the status.
 struct Case {
-    words: &'static [&'static str],
-    bytes: &'static [u8],
+    words: &'static str,
+    problem: &'static str,
     opens: &'static [u32],
     puts: &'static [u32],
-    text: &'static [u8],
+    text: &'static str,
     status: Status,
 }
 
@@ -138,93 +140,124 @@ fn try_case<T: Threads + Wait + Sync + Abort>(
     requires keeps { All (λ domain. ⟦<Rules<Silent> as Kept>⟧.keeps domain.rules) domains.now }
 {
     let words = words_of(alloc, case.words)?;
-    let mut shelf = shelf(alloc, case.bytes, case.opens)?;
+    let mut shelf = shelf(alloc, case.problem.as_bytes(), case.opens)?;
     let mut out = MemSink::new(alloc, 1000, Vec::from_slice(alloc, case.puts)?);
     let status = run(rt, alloc, &words, &mut shelf, &mut out, &NoGate, domains);
-    assert_eq!(rt; out.text(), case.text);
+    assert_eq!(rt; out.text(), case.text.as_bytes());
     assert_eq!(rt; status, case.status);
+    assert_eq!(rt; shelf.lent(), 0);
     Ok(())
 }
 
 /// A lesson that is placed, and one that isn't.
-const LESSONS: &[u8] =
-    b"{\"format\":1,\"domain\":\"school\",\"settings\":{\"steps\":0},\"facts\":{\"timeslot\":[{\"id\":1,\"day\":1},{\"id\":2,\"day\":2}],\"room\":[{\"id\":7,\"capacity\":30}],\"lesson\":[{\"id\":4,\"subject\":\"Physics\",\"slot\":2,\"room\":7},{\"id\":1,\"subject\":\"Maths\"}]}}";
+const LESSONS: &str = r#"{"format":1,"domain":"school","settings":{"steps":0},"facts":{
+"timeslot":[{"id":1,"day":1},{"id":2,"day":2}],"room":[{"id":7,"capacity":30}],
+"lesson":[{"id":4,"subject":"Physics","slot":2,"room":7},{"id":1,"subject":"Maths"}]}}"#;
 
 /// No facts, and one step.
-const STEPS: &[u8] =
-    b"{\"format\":1,\"domain\":\"school\",\"settings\":{\"steps\":1},\"facts\":{}}";
+const STEPS: &str = r#"{"format":1,"domain":"school","settings":{"steps":1},"facts":{}}"#;
+
+/// A run of one step of nothing.
+const STEPPED: &str = r#"run school
+leg 0
+start 0hard/0medium/0soft
+step 1 none 0hard/0medium/0soft
+best 0hard/0medium/0soft
+rule any_lesson 0 0hard/0medium/0soft
+end
+"#;
+
+/// How the lessons are placed.
+const SOLVED: &str = r#"run school
+leg 0
+place lesson#1 slot=1 room=7 -2hard/0medium/0soft
+start -2hard/0medium/0soft
+best -2hard/0medium/0soft
+lesson#1 slot=1 room=7
+lesson#4 slot=2 room=7
+rule any_lesson 2 -2hard/0medium/0soft
+match -1hard/0medium/0soft lesson#1
+match -1hard/0medium/0soft lesson#4
+end
+"#;
+
+/// What they score as they are read.
+const SCORED: &str = r#"score -2init/-1hard/0medium/0soft
+rule any_lesson 1 -1hard/0medium/0soft
+end
+"#;
 
 const CASES: [Case; 9] = [
     Case {
-        words: &["solve", "p"],
-        bytes: LESSONS,
+        words: "solve p",
+        problem: LESSONS,
         opens: &[],
         puts: &[],
-        text: b"run school\nleg 0\nplace lesson#1 slot=1 room=7 -2hard/0medium/0soft\nstart -2hard/0medium/0soft\nbest -2hard/0medium/0soft\nlesson#1 slot=1 room=7\nlesson#4 slot=2 room=7\nrule any_lesson 2 -2hard/0medium/0soft\nmatch -1hard/0medium/0soft lesson#1\nmatch -1hard/0medium/0soft lesson#4\nend\n",
+        text: SOLVED,
         status: Status::Ok,
     },
     Case {
-        words: &["score", "p"],
-        bytes: LESSONS,
+        words: "score p",
+        problem: LESSONS,
         opens: &[],
         puts: &[],
-        text: b"score -2init/-1hard/0medium/0soft\nrule any_lesson 1 -1hard/0medium/0soft\nend\n",
+        text: SCORED,
         status: Status::Ok,
     },
     Case {
-        words: &["solve", "p"],
-        bytes: STEPS,
+        words: "solve p",
+        problem: STEPS,
         opens: &[],
         puts: &[],
-        text: b"refused problem unbuilt\n",
+        text: STEPPED,
+        status: Status::Ok,
+    },
+    Case {
+        words: "solve p",
+        problem: "{",
+        opens: &[],
+        puts: &[],
+        text: "refused problem json\n",
         status: Status::Problem,
     },
     Case {
-        words: &["solve", "p"],
-        bytes: b"{",
+        words: "score q",
+        problem: LESSONS,
         opens: &[],
         puts: &[],
-        text: b"refused problem json\n",
-        status: Status::Problem,
-    },
-    Case {
-        words: &["score", "q"],
-        bytes: LESSONS,
-        opens: &[],
-        puts: &[],
-        text: b"refused source\n",
+        text: "refused source\n",
         status: Status::Source,
     },
     Case {
-        words: &["score", "p"],
-        bytes: LESSONS,
+        words: "score p",
+        problem: LESSONS,
         opens: &[0],
         puts: &[],
-        text: b"refused source\n",
+        text: "refused source\n",
         status: Status::Source,
     },
     Case {
-        words: &["score", "p"],
-        bytes: LESSONS,
+        words: "score p",
+        problem: LESSONS,
         opens: &[],
         puts: &[0],
-        text: b"",
+        text: "",
         status: Status::Write,
     },
     Case {
-        words: &["explain", "p"],
-        bytes: LESSONS,
+        words: "explain p",
+        problem: LESSONS,
         opens: &[],
         puts: &[],
-        text: b"refused usage\n",
+        text: "refused usage\n",
         status: Status::Usage,
     },
     Case {
-        words: &[],
-        bytes: LESSONS,
+        words: "",
+        problem: LESSONS,
         opens: &[],
         puts: &[],
-        text: b"refused usage\n",
+        text: "refused usage\n",
         status: Status::Usage,
     },
 ];

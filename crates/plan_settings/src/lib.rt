@@ -4,5 +4,5 @@
 mod setting;
 mod settings;
 
-pub use setting::{AcceptorKind, Early, Selector, Setting};
-pub use settings::Settings;
+pub use setting::{AcceptorKind, Construction, Early, Selector, Setting};
+pub use settings::{SELECTOR_LIMIT, SIZE_LIMIT, STEP_LIMIT, Settings};

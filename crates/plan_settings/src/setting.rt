@@ -37,6 +37,15 @@ pub enum Selector {
     Own,
 }
 
+/// In which order entities are placed before the search.
+#[derive(Clone, Copy, Debug, PartialEq, Eq)]
+pub enum Construction {
+    /// First fit: in the order of their classes and ids.
+    FirstFit,
+    /// First fit decreasing: in each class those of greater difficulty first.
+    Decreasing,
+}
+
 /// The settings, in the order in which they are looked at.
 #[derive(Clone, Copy, Debug, PartialEq, Eq)]
 pub enum Setting {
@@ -50,11 +59,12 @@ pub enum Setting {
     TabuSize,
     StepCountSize,
     Selectors,
+    Construction,
 }
 
 impl Setting {
     /// All settings, in their order.
-    pub const ALL: [Setting; 10] = [
+    pub const ALL: [Setting; 11] = [
         Setting::Seed,
         Setting::Steps,
         Setting::SelectLimit,
@@ -65,5 +75,6 @@ impl Setting {
         Setting::TabuSize,
         Setting::StepCountSize,
         Setting::Selectors,
+        Setting::Construction,
     ];
 }

@@ -1,6 +1,15 @@
-use crate::setting::{AcceptorKind, Early, Selector, Setting};
+use crate::setting::{AcceptorKind, Construction, Early, Selector, Setting};
 use plan_facts::{List, Memory};
 use std::alloc::Global;
+
+/// The most steps of a run.
+pub const STEP_LIMIT: u32 = 1_000_000;
+
+/// The greatest number of a limit on candidates or of a size of an acceptor.
+pub const SIZE_LIMIT: u32 = 10_000;
+
+/// The most selectors of a run.
+pub const SELECTOR_LIMIT: usize = 8;
 
 /// What a run is told.
 #[derive(Drop)]
@@ -23,6 +32,7 @@ pub struct Settings {
     pub step_count_size: u32,
     /// 1 to 8 selectors, from which each candidate's is drawn; one may stand more than once.
     pub selectors: List<Selector>,
+    pub construction: Construction,
 }
 
 impl Settings {
@@ -44,6 +54,7 @@ impl Settings {
             tabu_size: 7,
             step_count_size: 400,
             selectors: List::from_slice(alloc, &[Selector::Change, Selector::Swap])?,
+            construction: Construction::FirstFit,
         })
     }
 
@@ -79,14 +90,14 @@ impl Settings {
         ensures { result ≡ is_in_range self.now setting }
     {
         match setting {
-            Setting::Seed | Setting::PickEarly | Setting::Acceptor => true,
-            Setting::Steps => self.steps <= 1_000_000,
+            Setting::Seed | Setting::PickEarly | Setting::Acceptor | Setting::Construction => true,
+            Setting::Steps => self.steps <= STEP_LIMIT,
             Setting::SelectLimit => is_size(self.select_limit),
             Setting::AcceptedLimit => is_size(self.accepted_limit),
             Setting::LateSize => is_size(self.late_size),
             Setting::TabuSize => is_size(self.tabu_size),
             Setting::StepCountSize => is_size(self.step_count_size),
-            Setting::Selectors => matches!(self.selectors.len(), 1..=8),
+            Setting::Selectors => matches!(self.selectors.len(), 1..=SELECTOR_LIMIT),
         }
     }
 }
@@ -98,87 +109,8 @@ ghost use Rattle.plan_settings.specs.Settings.{is_size};
 fn is_size(number: u32) -> bool
     ensures { result ≡ is_size number }
 {
-    matches!(number, 1..=10_000)
+    matches!(number, 1..=SIZE_LIMIT)
 }
 
 #[cfg(test)]
-mod tests {
-    use super::*;
-    use std::test::Fail;
-
-    #[test]
-    fn usual_settings_are_in_range(rt: HostRuntime) -> Result<(), Fail> {
-        let usual = Settings::usual(rt.alloc())?;
-        assert_eq!(rt; usual.fault(), None);
-        assert_eq!(rt;
-            (
-                usual.seed,
-                usual.steps,
-                usual.select_limit,
-                usual.accepted_limit
-            ),
-            (0, 1_000, 1_000, 1)
-        );
-        assert_eq!(rt;
-            (usual.pick_early, usual.acceptor),
-            (Early::Never, AcceptorKind::Late)
-        );
-        assert_eq!(rt;
-            (usual.late_size, usual.tabu_size, usual.step_count_size),
-            (400, 7, 400)
-        );
-        let selectors = [Selector::Change, Selector::Swap];
-        assert_eq!(rt; usual.selectors.as_slice(), selectors.as_slice());
-        assert_eq!(rt; usual.copy(rt.alloc())?.selectors.len(), 2);
-        Ok(())
-    }
-
-    #[test]
-    fn names_the_first_setting_out_of_range(rt: HostRuntime) -> Result<(), Fail> {
-        let cases = [
-            ([0, 1, 1, 1, 1, 1, 1], None),
-            ([1_000_000, 10_000, 10_000, 10_000, 10_000, 10_000, 8], None),
-            ([1_000_001, 0, 0, 0, 0, 0, 0], Some(Setting::Steps)),
-            ([0, 0, 0, 0, 0, 0, 0], Some(Setting::SelectLimit)),
-            ([0, 10_001, 1, 1, 1, 1, 1], Some(Setting::SelectLimit)),
-            ([0, 1, 0, 0, 0, 0, 0], Some(Setting::AcceptedLimit)),
-            ([0, 1, 10_001, 1, 1, 1, 9], Some(Setting::AcceptedLimit)),
-            ([0, 1, 1, 0, 0, 0, 0], Some(Setting::LateSize)),
-            ([0, 1, 1, 10_001, 1, 1, 1], Some(Setting::LateSize)),
-            ([0, 1, 1, 1, 0, 0, 0], Some(Setting::TabuSize)),
-            ([0, 1, 1, 1, 10_001, 1, 1], Some(Setting::TabuSize)),
-            ([0, 1, 1, 1, 1, 0, 0], Some(Setting::StepCountSize)),
-            ([0, 1, 1, 1, 1, 10_001, 1], Some(Setting::StepCountSize)),
-            ([0, 1, 1, 1, 1, 1, 0], Some(Setting::Selectors)),
-            ([0, 1, 1, 1, 1, 1, 9], Some(Setting::Selectors)),
-        ];
-        for (numbers, fault) in cases {
-            let [
-                steps,
-                select_limit,
-                accepted_limit,
-                late_size,
-                tabu_size,
-                step_count_size,
-                selectors,
-            ] = numbers;
-            let mut settings = Settings {
-                seed: u64::MAX,
-                steps,
-                select_limit,
-                accepted_limit,
-                pick_early: Early::Last,
-                acceptor: AcceptorKind::Tabu,
-                late_size,
-                tabu_size,
-                step_count_size,
-                selectors: List::new(rt.alloc()),
-            };
-            for _ in 0..selectors {
-                settings.selectors.push(Selector::Own)?;
-            }
-            assert_eq!(rt; settings.fault(), fault, "{numbers:?}");
-        }
-        Ok(())
-    }
-}
+mod tests;

@@ -1,18 +1,24 @@
 -- Texts that grow line by line, and lists of lines that grow class by class and rule by rule.
-use Rattle.std.proofs.Common.{◌≡◌, ◌∙◌, ◌<◌, ◌≤◌, ◌+◌, ◌==◌, ℕ, suc, true, false, cond, List, [], ◌∷◌, ◌++◌, length, get_or, map, take, sym, ap, arith}
-use Rattle.std.specs.List.{flat_map, enumerate_from}
-use Rattle.std.proofs.lemmas.List.{append-nil, append_assoc, length-take, map-append, map_more, take_all, take_more}
+use Rattle.std.proofs.Common.{◌≡◌, ◌∙◌, ◌<◌, ◌+◌, ℕ, Option, List, [], ◌∷◌, ◌++◌, length, get_or, map, take, refl, sym, ap, arith, All}
+use Rattle.std.specs.Option.{option_map_or}
+use Rattle.std.specs.List.{filter, flat_map, enumerate_from, range_with_len}
+use Rattle.std.proofs.lemmas.List.{append-nil, append_assoc, get_or-map, map-append, map_more}
+use Rattle.std.proofs.lemmas.List.Elements.{All-filter, All-head, All-tail}
 use Rattle.std.proofs.lemmas.Grind.{flat_map-append}
 use Rattle.plan_facts.specs.declared.record.ClassDef.{ClassDef}
 use Rattle.plan_facts.specs.declared.record.Raw.{Raw}
-use Rattle.plan_facts.specs.Plan.{PlanView, ClassView, class_of, no_class}
+use Rattle.plan_facts.specs.Plan.{PlanView, IsPlan, class_of}
+use Rattle.plan_facts.proofs.Places.{record_at}
+use Rattle.plan_facts.proofs.Sound.{class_at}
+use Rattle.plan_moves.specs.Entities.{entities_of, entity_classes, is_entity_class, touch_of}
 use Rattle.plan_rules.specs.declared.rule.RuleDef.{RuleDef}
 use Rattle.plan_rules.specs.declared.row.Match.{Match}
 use Rattle.plan_reports.specs.declared.line.Line.{Line}
+use Rattle.plan_reports.specs.declared.line.Line.TheVariants as line
 use Rattle.plan_reports.specs.Lines.{line_text, lines_text}
-use Rattle.plan_search.specs.declared.placed.Entity.{Entity}
-use Rattle.plan_search.specs.Placing.{class_entities, entities_of, entity_of}
-use Rattle.plan_search.specs.RunLines.{entity_line, entity_lines, matches_lines, match_line, rule_line, rule_lines, sums_lines}
+use Rattle.plan_search.specs.RunLines.{entity_line, entity_lines, matches_lines, match_line, record_line, rule_line, rule_lines, sums_lines}
+use Rattle.plan_search.proofs.Awaiting.{range_below}
+use Rattle.construction.proofs.TodoLaws.{enumerate-push, flat_map-same}
 
 -- the text of some lines is there, and that of more lines is written
 pub written_more : (classes : List ClassDef) (rules : List RuleDef) (front more all : List Line) (old now new : List ℕ) → all ≡ front ++ more
@@ -29,26 +35,6 @@ pub written_next : {X : Type 0} (classes : List ClassDef) (rules : List RuleDef)
 written_next classes rules f xs k d old now new within was wrote =
     written_more classes rules (map f (take k xs)) (f (get_or xs k d) ∷ []) (map f (take (k + 1) xs)) old now new (map_more f xs k d within) was wrote
 
--- two lists numbered one behind the other
-enumerate-append : {X : Type 0} (n : ℕ) (xs ys : List X) → enumerate_from n (xs ++ ys) ≡ enumerate_from n xs ++ enumerate_from (n + length xs) ys
-enumerate-append n [] ys = ap (λ k. enumerate_from k ys) (let e : n ≡ n + 0 = omega arith in e)
-enumerate-append n (x ∷ xs) ys =
-    ap (λ zs. (n, x) ∷ zs) (enumerate-append (n + 1) xs ys ∙ ap (λ k. enumerate_from (n + 1) xs ++ enumerate_from k ys) (let e : n + 1 + length xs ≡ n + suc (length xs) = omega arith in e))
-
--- a list numbered up to the next place
-enumerate-push : {X : Type 0} (xs : List X) (k : ℕ) (d : X) → k < length xs → enumerate_from 0 (take (k + 1) xs) ≡ enumerate_from 0 (take k xs) ++ (k, get_or xs k d) ∷ []
-enumerate-push xs k d within =
-    let long : 0 + length (take k xs) ≡ k = omega (arith, length-take k xs) in
-    ap (enumerate_from 0) (take_more xs k d within)
-    ∙ enumerate-append 0 (take k xs) (get_or xs k d ∷ []) ∙ ap (λ n. enumerate_from 0 (take k xs) ++ (n, get_or xs k d) ∷ []) long
-
--- what is listed for each numbered member, one member more
-listed-push : {X Y : Type 0} (f : ℕ × X → List Y) (xs : List X) (k : ℕ) (d : X) → k < length xs → flat_map f (enumerate_from 0 (take (k + 1) xs)) ≡ flat_map f (enumerate_from 0 (take k xs)) ++ f (k, get_or xs k d)
-listed-push f xs k d within =
-    ap (flat_map f) (enumerate-push xs k d within)
-    ∙ flat_map-append f (enumerate_from 0 (take k xs)) ((k, get_or xs k d) ∷ [])
-    ∙ ap (λ zs. flat_map f (enumerate_from 0 (take k xs)) ++ zs) (append-nil (f (k, get_or xs k d)))
-
 -- the lines of one rule more, alone
 pub sums-push : (matches : List (List Match)) (k : ℕ) (d : List Match) → k < length matches → sums_lines (take (k + 1) matches) ≡ sums_lines (take k matches) ++ rule_line k (get_or matches k d) ∷ []
 sums-push matches k d within =
@@ -59,44 +45,50 @@ sums-push matches k d within =
 pub matches-push : (matches : List (List Match)) (k : ℕ) (d : List Match) → k < length matches
     → matches_lines (take (k + 1) matches) ≡ (matches_lines (take k matches) ++ rule_line k (get_or matches k d) ∷ []) ++ map match_line (get_or matches k d)
 matches-push matches k d within =
-    listed-push (λ (pair : ℕ × List Match). rule_lines pair.0 pair.1) matches k d within
+    let of_rule : ℕ × List Match → List Line = λ pair. rule_lines pair.0 pair.1 in
+    ap (flat_map of_rule) (enumerate-push matches k d within)
+    ∙ flat_map-append of_rule (enumerate_from 0 (take k matches)) ((k, get_or matches k d) ∷ [])
+    ∙ ap (λ zs. matches_lines (take k matches) ++ zs) (append-nil (of_rule (k, get_or matches k d)))
     ∙ sym (append_assoc (matches_lines (take k matches)) (rule_line k (get_or matches k d) ∷ []) (map match_line (get_or matches k d)))
 
--- the lines of the entities among the first classes
-abbrev pub lines_in : List ClassView → List Line
-lines_in classes = map entity_line (flat_map (λ pair. class_entities pair.0 pair.1) (enumerate_from 0 classes))
+-- the lines of the entities of a class
+abbrev pub lines_in : PlanView → ℕ → List Line
+lines_in plan class = map (record_line class) (class_of plan class).facts
 
--- those of one class more
-lines_in-push : (classes : List ClassView) (k : ℕ) (d : ClassView) → k < length classes → lines_in (take (k + 1) classes) ≡ lines_in (take k classes) ++ map entity_line (class_entities k (get_or classes k d))
-lines_in-push classes k d within =
-    let entities : ℕ × ClassView → List Entity = λ pair. class_entities pair.0 pair.1 in
-    ap (map entity_line) (listed-push entities classes k d within)
-    ∙ map-append entity_line (flat_map entities (enumerate_from 0 (take k classes))) (entities (k, get_or classes k d))
+map-flat_map : {A B C : Type 0} (g : B → C) (f : A → List B) (xs : List A) → map g (flat_map f xs) ≡ flat_map (λ x. map g (f x)) xs
+map-flat_map g f [] = refl
+map-flat_map g f (x ∷ xs) = map-append g (f x) (flat_map f xs) ∙ ap (λ zs. map g (f x) ++ zs) (map-flat_map g f xs)
 
--- all classes
-pub lines_in-all : (plan : PlanView) (k : ℕ) → length plan.classes ≤ k → entity_lines plan ≡ lines_in (take k plan.classes)
-unfolding entities_of
-lines_in-all plan k past = ap lines_in (sym (take_all k plan.classes past))
+-- what is made of a list in two steps is made in one, where that is the same of each member
+map-map_same : {A B C : Type 0} (g : B → C) (f : A → B) (h : A → C) (xs : List A) → All (λ x. g (f x) ≡ h x) xs → map g (map f xs) ≡ map h xs
+map-map_same g f h [] same = refl
+map-map_same g f h (x ∷ xs) same =
+    let P : _ → Type 0 = λ x. g (f x) ≡ h x in
+    let here = All-head P x xs same in
+    let rest = map-map_same g f h xs (All-tail P x xs same) in
+    λ i. here i ∷ rest i
 
--- a class with variables was written
-pub class_some : (plan : PlanView) (k : ℕ) (ranges : List ℕ) (facts : List Raw) → k < length plan.classes → ranges ≡ (class_of plan k).ranges → (length ranges == 0) ≡ false → facts ≡ (class_of plan k).facts
-    → lines_in (take (k + 1) plan.classes) ≡ lines_in (take k plan.classes) ++ map entity_line (map (entity_of k) facts)
-class_some plan k ranges facts within ranges_are some facts_are =
-    let entities : class_entities k (class_of plan k) ≡ map (entity_of k) facts =
-    ap (λ (rs : List ℕ). cond (length rs == 0) [] (map (entity_of k) (class_of plan k).facts)) (sym ranges_are)
-    ∙ ap (λ b. cond b [] (map (entity_of k) (class_of plan k).facts)) some
-    ∙ ap (map (entity_of k)) (sym facts_are) in
-    lines_in-push plan.classes k no_class within ∙ ap (λ zs. lines_in (take k plan.classes) ++ map entity_line zs) entities
+-- the line of an entity of a class is seen from its record
+lines_in-is : (plan : PlanView) (class : ℕ) → IsPlan plan → class < length plan.classes
+    → map (entity_line plan) (map (touch_of class) (class_of plan class).facts) ≡ lines_in plan class
+lines_in-is plan class sound within =
+    let facts = (class_of plan class).facts in
+    let up = (class_at plan class sound within).increasing in
+    map-map_same (entity_line plan) (touch_of class) (record_line class) facts
+    (λ k d h.
+    let raw = get_or facts k d in
+    let id = get_or-map (λ (raw : Raw). raw.id) facts k d 0 h in
+    ap (λ (found : Option Raw). line.Entity class raw.id (option_map_or (λ (r : Raw). r.values) found [])) (record_at facts k raw.id d up h id))
 
--- a class without variables was passed over
-pub class_none : (plan : PlanView) (k : ℕ) (ranges : List ℕ) → k < length plan.classes → ranges ≡ (class_of plan k).ranges → (length ranges == 0) ≡ true
-    → lines_in (take (k + 1) plan.classes) ≡ lines_in (take k plan.classes)
-class_none plan k ranges within ranges_are none =
-    let entities : class_entities k (class_of plan k) ≡ [] =
-    ap (λ (rs : List ℕ). cond (length rs == 0) [] (map (entity_of k) (class_of plan k).facts)) (sym ranges_are)
-    ∙ ap (λ b. cond b [] (map (entity_of k) (class_of plan k).facts)) none in
-    lines_in-push plan.classes k no_class within
-    ∙ ap (λ zs. lines_in (take k plan.classes) ++ map entity_line zs) entities ∙ append-nil (lines_in (take k plan.classes))
+-- the lines of all entities, class by class
+pub entity_lines-by_class : (plan : PlanView) → IsPlan plan → flat_map (lines_in plan) (entity_classes plan) ≡ entity_lines plan
+unfolding entities_of entity_classes
+entity_lines-by_class plan sound =
+    let n = length plan.classes in
+    let classes = filter (is_entity_class plan) (range_with_len 0 n) in
+    sym (map-flat_map (entity_line plan) (λ class. map (touch_of class) (class_of plan class).facts) classes
+    ∙ flat_map-same (λ class. map (entity_line plan) (map (touch_of class) (class_of plan class).facts)) (lines_in plan) classes
+    (λ k d h. lines_in-is plan _ sound (All-filter (is_entity_class plan) (λ class. class < n) (range_with_len 0 n) (range_below n 0 n (omega arith)) k d h)))
 
 -- what a slice holds at a place is what the list it was lent from holds there
 pub lent_at : (matches slice : List (List Match)) (k : ℕ) (item of_rule : List Match) → slice ≡ matches → item ≡ get_or slice k item → of_rule ≡ item → of_rule ≡ get_or matches k item

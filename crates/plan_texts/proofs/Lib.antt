@@ -1,2 +1,11 @@
+pub mod Asking
+pub mod Begun
 pub mod Grown
+pub mod Kept
+pub mod Placed
+pub mod Played
+pub mod Posing
+pub mod Printed
+pub mod Stepped
+pub mod WayBack
 pub mod Whole

@@ -1,9 +1,3 @@
-ghost use Rattle.std.specs.Prelude.{◌≡◌, ◌≤◌, ◌++◌, ◌∷◌, [], OnOk, length, map};
-ghost use Rattle.plan_rules.specs.Totals.{impact_sum};
-ghost use Rattle.plan_reports.specs.Lines.{lines_text};
-ghost use Rattle.plan_search.specs.Placing.{entity_of, entities_of};
-ghost use Rattle.plan_search.specs.RunLines.{entity_line, entity_lines, match_line, matches_lines, place_line, rule_line, rule_lines, stuck_lines, sums_lines};
-
 use plan_facts::{List, Memory, Plan, Raw, Schema};
 use plan_moves::Touch;
 use plan_recalc::Totals;
@@ -21,16 +15,21 @@ pub struct Report<'a> {
 }
 
 impl<'a> Report<'a> {
+    ghost use Rattle.std.specs.Prelude.{◌≡◌, ◌≤◌, ◌∷◌, [], length, map};
+    ghost use Rattle.plan_rules.specs.Totals.{impact_sum};
+    ghost use Rattle.plan_search.specs.RunLines.{entity_lines, match_line, matches_lines, place_line, record_line, rule_line, stuck_lines, sums_lines};
+    ghost use Rattle.plan_texts.specs.Writes.{Writes};
+
     /// Appends a line.
     pub fn line(&self, line: &Line, out: &mut Vec<u8>) -> Result<(), Memory>
-        ensures { OnOk result (out.new.items ≡ out.old.items ++ lines_text self.now.schema.now self.now.rules.now (line.now ∷ [])) }
+        ensures { Writes self.now result out.old.items out.new.items (line.now ∷ []) }
     {
         write_line(self.schema, self.rules, line, out)
     }
 
     /// Appends a line for each placing.
     pub fn placed(&self, alloc: Global, placed: &[Placed], out: &mut Vec<u8>) -> Result<(), Memory>
-        ensures { OnOk result (out.new.items ≡ out.old.items ++ lines_text self.now.schema.now self.now.rules.now (map place_line placed.now)) }
+        ensures { Writes self.now result out.old.items out.new.items (map place_line placed.now) }
     {
         for one in placed {
             let line = Line::Place {
@@ -46,7 +45,7 @@ impl<'a> Report<'a> {
 
     /// Appends the line of the entity at which placing was stuck, if any.
     pub fn stuck(&self, stuck: Option<Touch>, out: &mut Vec<u8>) -> Result<(), Memory>
-        ensures { OnOk result (out.new.items ≡ out.old.items ++ lines_text self.now.schema.now self.now.rules.now (stuck_lines stuck)) }
+        ensures { Writes self.now result out.old.items out.new.items (stuck_lines stuck) }
     {
         match stuck {
             Some(entity) => {
@@ -68,7 +67,7 @@ impl<'a> Report<'a> {
         facts: &[Raw],
         out: &mut Vec<u8>,
     ) -> Result<(), Memory>
-        ensures { OnOk result (out.new.items ≡ out.old.items ++ lines_text self.now.schema.now self.now.rules.now (map entity_line (map (entity_of class) facts.now))) }
+        ensures { Writes self.now result out.old.items out.new.items (map (record_line class) facts.now) }
     {
         for raw in facts {
             let line = Line::Entity {
@@ -83,7 +82,7 @@ impl<'a> Report<'a> {
 
     /// Appends a line for each entity of a plan, in entity order.
     pub fn entities(&self, alloc: Global, plan: &Plan, out: &mut Vec<u8>) -> Result<(), Memory>
-        ensures { OnOk result (out.new.items ≡ out.old.items ++ lines_text self.now.schema.now self.now.rules.now (entity_lines plan.now)) }
+        ensures { Writes self.now result out.old.items out.new.items (entity_lines plan.now) }
     {
         for class in 0..plan.classes() {
             if !plan.ranges(class).is_empty() {
@@ -102,7 +101,7 @@ impl<'a> Report<'a> {
         out: &mut Vec<u8>,
     ) -> Result<(), Memory>
         requires { impact ≡ impact_sum matches.now }
-        ensures { OnOk result (out.new.items ≡ out.old.items ++ lines_text self.now.schema.now self.now.rules.now (rule_line rule matches.now ∷ [])) }
+        ensures { Writes self.now result out.old.items out.new.items (rule_line rule matches.now ∷ []) }
     {
         let line = Line::Rule {
             rule,
@@ -113,13 +112,13 @@ impl<'a> Report<'a> {
     }
 
     /// Appends a line for each match.
-    fn matches(&self, alloc: Global, matches: &[Match], out: &mut Vec<u8>) -> Result<(), Memory>
-        ensures { OnOk result (out.new.items ≡ out.old.items ++ lines_text self.now.schema.now self.now.rules.now (map match_line matches.now)) }
+    fn matches(&self, matches: &[Match], out: &mut Vec<u8>) -> Result<(), Memory>
+        ensures { Writes self.now result out.old.items out.new.items (map match_line matches.now) }
     {
         for one in matches {
             let line = Line::Match {
                 impact: one.impact,
-                row: one.row.copy(alloc)?,
+                row: one.row.copy()?,
             };
             self.line(&line, out)?;
         }
@@ -127,26 +126,24 @@ impl<'a> Report<'a> {
     }
 
     /// Appends the line of each rule and of each of its matches.
-    pub fn rules(&self, alloc: Global, totals: &Totals, out: &mut Vec<u8>) -> Result<(), Memory>
-        requires few { length totals.now.matches ≤ 32 }
-        requires impacts { totals.now.impacts ≡ map impact_sum totals.now.matches }
-        ensures { OnOk result (out.new.items ≡ out.old.items ++ lines_text self.now.schema.now self.now.rules.now (matches_lines totals.now.matches)) }
+    pub fn rules(&self, totals: &Totals, out: &mut Vec<u8>) -> Result<(), Memory>
+        requires { length totals.now.matches ≤ 32 }
+        ensures { Writes self.now result out.old.items out.new.items (matches_lines totals.now.matches) }
     {
         let matches = totals.matches.as_slice();
         let impacts = totals.impacts.as_slice();
         for rule in 0..matches.len() {
             let of_rule = matches[rule].as_slice();
             self.rule(rule as u8, of_rule, impacts[rule], out)?;
-            self.matches(alloc, of_rule, out)?;
+            self.matches(of_rule, out)?;
         }
         Ok(())
     }
 
     /// Appends the line of each rule alone.
     pub fn sums(&self, totals: &Totals, out: &mut Vec<u8>) -> Result<(), Memory>
-        requires few { length totals.now.matches ≤ 32 }
-        requires impacts { totals.now.impacts ≡ map impact_sum totals.now.matches }
-        ensures { OnOk result (out.new.items ≡ out.old.items ++ lines_text self.now.schema.now self.now.rules.now (sums_lines totals.now.matches)) }
+        requires { length totals.now.matches ≤ 32 }
+        ensures { Writes self.now result out.old.items out.new.items (sums_lines totals.now.matches) }
     {
         let matches = totals.matches.as_slice();
         let impacts = totals.impacts.as_slice();

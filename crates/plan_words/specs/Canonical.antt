@@ -10,5 +10,7 @@ option_words name (Some value) = (name ++ value) ∷ []
 
 -- the first word, the options in one order, and the positional words behind two dashes
 abbrev pub canonical : Word → Sorted → List Word
-canonical first s = first ∷ (option_words (codes "--feed=") s.feed ++ (option_words (codes "--journal=") s.journal
-    ++ (option_words (codes "--workers=") s.workers ++ (option_words (codes "--buffer=") s.buffer ++ (codes "--" ∷ s.positional)))))
+canonical first s =
+    first ∷ (option_words (codes "--feed=") s.feed ++ (option_words (codes "--journal=") s.journal
+    ++ (option_words (codes "--workers=") s.workers ++ (option_words (codes "--buffer=") s.buffer
+    ++ (codes "--" ∷ s.positional)))))

@@ -26,7 +26,9 @@ wants_value word = has_dash word && not (list_any is_equals_sign word)
 
 -- the word by itself: an option with the value behind its first equals sign, or a positional word
 abbrev pub item : Word → Item
-item word = if has_dash word then Given (before_first is_equals_sign word) (after_first is_equals_sign word) else Positional word
+item word =
+    if has_dash word then Given (before_first is_equals_sign word) (after_first is_equals_sign word)
+    else Positional word
 
 -- the items that the words are, in order; none where an option at the end lacks its value
 abbrev pub items : List Word → Option (List Item)

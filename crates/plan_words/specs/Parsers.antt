@@ -9,12 +9,14 @@ option_rule name = record (new_rule name) { long = Some name }
 
 -- a name, and the options feed, workers and buffer
 abbrev pub solve_parser : App
-solve_parser = with_rule (with_rule (with_rule (with_rule (new_app (codes "solve")) (new_rule (codes "name")))
+solve_parser =
+    with_rule (with_rule (with_rule (with_rule (new_app (codes "solve")) (new_rule (codes "name")))
     (option_rule (codes "feed"))) (option_rule (codes "workers"))) (option_rule (codes "buffer"))
 
 -- a name, and the options feed and journal
 abbrev pub replay_parser : App
-replay_parser = with_rule (with_rule (with_rule (new_app (codes "replay")) (new_rule (codes "name")))
+replay_parser =
+    with_rule (with_rule (with_rule (new_app (codes "replay")) (new_rule (codes "name")))
     (option_rule (codes "feed"))) (option_rule (codes "journal"))
 
 -- a name alone
@@ -23,11 +25,13 @@ name_parser first = with_rule (new_app first) (new_rule (codes "name"))
 
 -- a number and a size
 abbrev pub gen_parser : App
-gen_parser = with_rule (with_rule (new_app (codes "gen")) (new_rule (codes "number"))) (new_rule (codes "size"))
+gen_parser =
+    with_rule (with_rule (new_app (codes "gen")) (new_rule (codes "number"))) (new_rule (codes "size"))
 
 -- a number and a size, and the options workers and buffer
 abbrev pub tour_parser : App
-tour_parser = with_rule (with_rule (with_rule (with_rule (new_app (codes "tour")) (new_rule (codes "number")))
+tour_parser =
+    with_rule (with_rule (with_rule (with_rule (new_app (codes "tour")) (new_rule (codes "number")))
     (new_rule (codes "size"))) (option_rule (codes "workers"))) (option_rule (codes "buffer"))
 
 -- what a parser reads of an argument in some words

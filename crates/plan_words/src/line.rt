@@ -1,10 +1,9 @@
-ghost use Rattle.std.specs.Prelude.{◌≡◌, ◌++◌, [], true, false, Some, None, is_some, option_map, map, IfOk, OnOk, IfSome, IfNone, OnSome, option_to_list, ◌∷◌, ◌≤◌, length};
+ghost use Rattle.std.specs.Prelude.{◌≡◌, ◌++◌, [], true, false, Some, None, is_some, option_map, IfOk, OnOk, IfSome, IfNone, OnSome, option_to_list, ◌∷◌, ◌≤◌, length};
 ghost use Rattle.std.specs.Str.{is_utf8};
-ghost use Rattle.std.specs.String.{string_bytes};
 ghost use Rattle.plan_words.specs.Canonical.{canonical, option_words};
-ghost use Rattle.plan_words.specs.Line.{word_at};
+ghost use Rattle.plan_words.specs.Line.{texts, word_at};
 ghost use Rattle.plan_words.specs.Sorted.{Sorted, one, two, sorted_words};
-ghost use Rattle.plan_words.specs.Adding.{with_word, with_value, filled, with_words, nothing};
+ghost use Rattle.plan_words.specs.Adding.{GoesOn, with_word, with_value, filled, with_words, nothing};
 
 use plan_facts::{Memory, Text};
 use std::alloc::Global;
@@ -92,7 +91,7 @@ impl<'a> Line<'a> {
     /// The words of the command that begins with `first`, in one order: the options, each with its
     /// value in one word, and then the positional words.
     pub fn canonical(&self, alloc: Global, first: &str) -> Result<Vec<String>, Memory>
-        ensures { IfOk result (λ words. map string_bytes words.items ≡ canonical first.now self.now) }
+        ensures { IfOk result (λ words. texts words.items ≡ canonical first.now self.now) }
     {
         let mut words = Vec::new(alloc);
         push(alloc, &mut words, first)?;
@@ -108,7 +107,7 @@ impl<'a> Line<'a> {
 
     // Takes in the first of some words, with the next one where that is its value. Answers the others.
     fn take(&mut self, word: &'a Text, more: &'a [Text]) -> Option<&'a [Text]>
-        ensures some { IfSome result (λ rest. with_words self.old (word.now ∷ more.now) ≡ with_words self.new rest.now) }
+        ensures some { IfSome result (λ rest. GoesOn self.old (word.now ∷ more.now) self.new rest.now) }
         ensures shorter { IfSome result (λ rest. length rest.now ≤ length more.now) }
         ensures none { IfNone result (with_words self.old (word.now ∷ more.now) ≡ None) }
     {
@@ -189,14 +188,14 @@ fn utf8(word: &Text) -> Option<&str>
 }
 
 fn push(alloc: Global, words: &mut Vec<String>, word: &str) -> Result<(), Memory>
-    ensures { OnOk result (map string_bytes words.new.items ≡ map string_bytes words.old.items ++ word.now ∷ []) }
+    ensures { OnOk result (texts words.new.items ≡ texts words.old.items ++ word.now ∷ []) }
 {
     words.push(String::from_str(alloc, word)?)?;
     Ok(())
 }
 
 fn push_positional(alloc: Global, words: &mut Vec<String>, word: Option<&str>) -> Result<(), Memory>
-    ensures { OnOk result (map string_bytes words.new.items ≡ map string_bytes words.old.items ++ option_to_list (word_at word.entry)) }
+    ensures { OnOk result (texts words.new.items ≡ texts words.old.items ++ option_to_list (word_at word.entry)) }
 {
     if let Some(word) = word {
         push(alloc, words, word)?;
@@ -211,7 +210,8 @@ fn push_option(
     name: &str,
     value: Option<&str>,
 ) -> Result<(), Memory>
-    ensures { OnOk result (map string_bytes words.new.items ≡ map string_bytes words.old.items ++ option_words name.now (word_at value.entry)) }
+    ensures { let added = option_words name.now (word_at value.entry) in
+        OnOk result (texts words.new.items ≡ texts words.old.items ++ added) }
 {
     if let Some(value) = value {
         let mut word = String::from_str(alloc, name)?;

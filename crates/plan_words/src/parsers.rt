@@ -1,9 +1,9 @@
 //! The parsers of the commands, one for each first word. They have no defaults, groups or
 //! subcommands, and take every option and positional word as a plain text.
 
-ghost use Rattle.std.specs.Prelude.{◌≡◌, IfOk, codes, map, List, ℕ};
-ghost use Rattle.std.specs.String.{string_bytes};
+ghost use Rattle.std.specs.Prelude.{◌≡◌, IfOk, codes, List, ℕ};
 ghost use Rattle.clap.specs.Words.{app_of, new_rule, with_rule, rows_of, found_of, matches_of};
+ghost use Rattle.plan_words.specs.Line.{texts};
 ghost use Rattle.plan_words.specs.Parsers.{option_rule, solve_parser, replay_parser, name_parser, gen_parser, tour_parser, Takes};
 
 use clap::error::ErrorKind;
@@ -57,8 +57,8 @@ pub fn tour_parser<'a>(alloc: Global) -> Result<Parser<'a>, AllocError>
 
 /// What a parser reads of words that it takes. It fails only for want of memory.
 pub fn parsed<'a>(parser: Parser<'a>, words: &'a [String]) -> Result<ArgMatches<'a>, Memory>
-    requires { Takes (app_of parser) (map string_bytes words.now) }
-    ensures { IfOk result (λ m. rows_of (found_of m) ≡ matches_of (app_of parser.entry) (map string_bytes words.entry.now)) }
+    requires { Takes (app_of parser) (texts words.now) }
+    ensures { IfOk result (λ m. rows_of (found_of m) ≡ matches_of (app_of parser.entry) (texts words.entry.now)) }
 {
     match parser.try_get_matches_from(words) {
         Ok(matches) => Ok(matches),

@@ -12,7 +12,8 @@ use plan_facts::Text;
 
 /// The verb and the line of words that are a command; none where they are none.
 pub fn accepted<'a>(words: &'a [Text]) -> Option<(Verb, Line<'a>)>
-    ensures some { IfSome result (λ (v, line). (command words.now ≡ command_of v line) × (is_some (command_of v line) ≡ true)) }
+    ensures some { IfSome result (λ (v, line). command words.now ≡ command_of v line) }
+    ensures is_command { IfSome result (λ (v, line). is_some (command_of v line) ≡ true) }
     ensures none { IfNone result (command words.now ≡ None) }
 {
     let (first, others) = words.split_first()?;

@@ -1,3 +1,4 @@
+use crate::pieces::joined;
 use plan_facts::{Memory, Text};
 use plan_settings::Setting;
 use std::alloc::{AllocError, AllocFailed, Global};
@@ -19,7 +20,7 @@ pub enum ProblemFault {
     UnknownDomain,
     /// The setting is of another kind or out of its range.
     BadSetting { setting: Setting },
-    /// There are more than 20,000 records.
+    /// There are more than 100,000 records.
     TooManyFacts,
     /// The id is that of an earlier record of the class.
     DoubleId { class: Text, id: u32 },
@@ -37,33 +38,19 @@ pub enum ProblemFault {
 
 impl ProblemFault {
     ghost use Rattle.std.specs.Prelude.{Some};
-    ghost use Rattle.std.specs.List.{flat_map};
-    ghost use Rattle.problem_faults.specs.Refusals.{IsRefusal};
+    ghost use Rattle.plan_facts.specs.Refusal.{IsRefusal};
+    ghost use Rattle.problem_faults.specs.Pieces.{joined};
     ghost use Rattle.problem_faults.specs.declared.fault.ProblemFault.TheVariants as ProblemFault;
 
     /// The fault of what stands at the path that these pieces make, one after another.
     pub fn shape(alloc: Global, pieces: &[&[u8]]) -> ProblemFault
-        ensures { IsRefusal (Some (ProblemFault.Shape (flat_map (λ piece. piece.now) pieces.now))) result }
+        ensures { IsRefusal ProblemFault.Memory (Some (ProblemFault.Shape (joined pieces.now))) result }
     {
         match joined(alloc, pieces) {
             Ok(path) => ProblemFault::Shape { path },
             Err(Memory) => ProblemFault::Memory,
         }
     }
-}
-
-ghost use Rattle.std.specs.Prelude.{◌≡◌, IfOk};
-ghost use Rattle.std.specs.List.{flat_map};
-
-/// The pieces, one after another.
-fn joined(alloc: Global, pieces: &[&[u8]]) -> Result<Text, Memory>
-    ensures { IfOk result (λ text. text ≡ flat_map (λ piece. piece.now) pieces.now) }
-{
-    let mut bytes = Vec::new(alloc);
-    for piece in pieces {
-        bytes.extend_from_slice(piece)?;
-    }
-    Text::from_slice(alloc, &bytes)
 }
 
 impl From<Memory> for ProblemFault {

@@ -2,6 +2,7 @@
 #![tactic(auto)]
 
 mod fault;
+mod pieces;
 #[cfg(test)]
 mod tests;
 mod words;

@@ -1,6 +1,9 @@
-pub mod Steps
-pub mod Meets
-pub mod Fields
-pub mod Classes
-pub mod SameRaws
 pub mod Answered
+pub mod Classes
+pub mod Fields
+pub mod Firsts
+pub mod IdLoop
+pub mod Members
+pub mod Places
+pub mod Refused
+pub mod Steps

@@ -10,10 +10,9 @@ use Rattle.std.proofs.lemmas.Bool.Decides.{nat_tests}
 use Rattle.serde_json.specs.Data.{Data}
 use Rattle.plan_facts.specs.Names.{place_of, number_of, with_name}
 use Rattle.plan_facts.specs.declared.record.ClassDef.{ClassDef}
-use Rattle.problem_shapes.specs.Records.{records_of}
-use Rattle.problem_records.specs.Facts.{class_texts}
+use Rattle.problem_records.specs.Records.{records_of}
+use Rattle.problem_records.specs.Facts.{class_texts, class_raws, raw_lists}
 use Rattle.problem_records.specs.RecordFaults.{count_of}
-use Rattle.problem_records.specs.Given.{given_class, given_lists}
 
 -- the front with one member more
 pub front_more : {A : Type 0} (xs : List A) (k : ℕ) (x : A) → k < length xs → slice_get xs k ≡ Some x → take (k + 1) xs ≡ take k xs ++ x ∷ []
@@ -33,9 +32,9 @@ names_more classes facts k class within at =
 
 -- the lists with that of one class more
 pub lists_more : (names : List (List ℕ)) (classes : List ClassDef) (facts : Data) (k : ℕ) (class : ClassDef) → k < length classes → slice_get classes k ≡ Some class →
-    given_lists names (take (k + 1) classes) facts ≡ given_lists names (take k classes) facts ++ given_class names facts class ∷ []
+    raw_lists names (take (k + 1) classes) facts ≡ raw_lists names (take k classes) facts ++ class_raws names facts class ∷ []
 lists_more names classes facts k class within at =
-    rw (front_more classes k class within at) (map-append (given_class names facts) (take k classes) (class ∷ []))
+    rw (front_more classes k class within at) (map-append (class_raws names facts) (take k classes) (class ∷ []))
 
 -- what is found stands in the list or just past it
 place_le : {A : Type 0} (p : A → Bool) (xs : List A) → position_or_len p xs ≤ length xs

@@ -1,3 +1,6 @@
 pub mod Facts
+pub mod Listed
+pub mod Named
 pub mod RecordFaults
-pub mod Given
+pub mod Records
+pub mod Shapes

@@ -1,20 +1,25 @@
-ghost use Rattle.std.specs.Prelude.{◌≡◌, IfOk};
-ghost use Rattle.problem_records.specs.Given.{IsNamed, CanBeNamed};
+ghost use Rattle.std.specs.Prelude.{◌≡◌, Some, IfOk};
+ghost use Rattle.serde_json.specs.View.{view};
+ghost use Rattle.plan_facts.specs.Refusal.{IsRefusal};
+ghost use Rattle.problem_faults.specs.declared.fault.ProblemFault.TheVariants as ProblemFault;
+ghost use Rattle.problem_records.specs.Named.{class_name, var_name_in, var_name, named_fault};
 
-use plan_facts::{ClassDef, FieldDef, Memory, PlanFault, Schema, VarDef};
+use plan_facts::{ClassDef, FieldDef, Memory, PlanFault, Schema, Text};
 use problem_faults::ProblemFault;
 use std::alloc::Global;
 
 /// The fault of an id that stands twice in the class.
-fn double_id(alloc: Global, class: &ClassDef, id: u32) -> Result<ProblemFault, Memory>
-    ensures { IfOk result (λ fault. fault ≡ ProblemFault.DoubleId class.now.name id) }
+pub fn double_id(alloc: Global, class: &ClassDef, id: u32) -> ProblemFault
+    ensures { IsRefusal ProblemFault.Memory (Some (ProblemFault.DoubleId class.now.name id)) result }
 {
-    let class = class.name.copy(alloc)?;
-    Ok(ProblemFault::DoubleId { class, id })
+    match class.name.copy(alloc) {
+        Ok(class) => ProblemFault::DoubleId { class, id },
+        Err(Memory) => ProblemFault::Memory,
+    }
 }
 
 /// The fault of a field that is out of range.
-fn bad_field(
+pub fn bad_field(
     alloc: Global,
     class: &ClassDef,
     id: u32,
@@ -27,47 +32,51 @@ fn bad_field(
     Ok(ProblemFault::BadField { class, id, field })
 }
 
-/// The fault of a variable that holds no record of its value class.
-fn bad_value(alloc: Global, class: &ClassDef, id: u32, var: &VarDef) -> Result<ProblemFault, Memory>
-    ensures { IfOk result (λ fault. fault ≡ ProblemFault.BadValue class.now.name id var.now.name) }
+/// The name of the class with this number; the empty one where there is none.
+fn class_name(alloc: Global, schema: &Schema, n: u8) -> Result<Text, Memory>
+    ensures { IfOk result (λ name. name ≡ class_name schema.now n) }
 {
-    let class = class.name.copy(alloc)?;
-    let var = var.name.copy(alloc)?;
-    Ok(ProblemFault::BadValue { class, id, var })
+    match schema.class(n) {
+        Some(class) => class.name.copy(alloc),
+        None => Ok(Text::new(alloc)),
+    }
 }
 
-/// The fault of the plan as one of the problem, in which the class and its field or variable are named. Unless it is want
-/// of memory, it is of a record's id, field or value.
+/// The name of a variable of the class; the empty one where there is none.
+fn var_name_in(alloc: Global, class: &ClassDef, var: u8) -> Result<Text, Memory>
+    ensures { IfOk result (λ name. name ≡ var_name_in class.now var) }
+{
+    match class.vars.get(var as usize) {
+        Some(var) => var.name.copy(alloc),
+        None => Ok(Text::new(alloc)),
+    }
+}
+
+/// The name of a variable of the class with this number; the empty one where there is none.
+fn var_name(alloc: Global, schema: &Schema, n: u8, var: u8) -> Result<Text, Memory>
+    ensures { IfOk result (λ name. name ≡ var_name schema.now n var) }
+{
+    match schema.class(n) {
+        Some(class) => var_name_in(alloc, class, var),
+        None => Ok(Text::new(alloc)),
+    }
+}
+
+/// What a plan is refused for whose ids and fields have been looked at before: a value that is no record of its value class,
+/// or want of memory.
 pub fn named_fault(alloc: Global, schema: &Schema, fault: PlanFault) -> Result<ProblemFault, Memory>
-    requires { CanBeNamed schema.now fault }
-    ensures { IfOk result (IsNamed schema.now fault) }
+    ensures { IfOk result (λ named. named ≡ named_fault schema.now fault) }
 {
     match fault {
-        PlanFault::Memory => Err(Memory),
-        PlanFault::BadId { class, id } => {
-            let Some(class) = schema.class(class) else {
-                unreachable!();
-            };
-            double_id(alloc, class, id)
-        }
-        PlanFault::FieldRange { class, id, field } => {
-            let Some(class) = schema.class(class) else {
-                unreachable!();
-            };
-            let Some(field) = class.fields.get(field as usize) else {
-                unreachable!();
-            };
-            bad_field(alloc, class, id, field)
-        }
         PlanFault::BadValue { class, id, var } => {
-            let Some(class) = schema.class(class) else {
-                unreachable!();
-            };
-            let Some(var) = class.vars.get(var as usize) else {
-                unreachable!();
-            };
-            bad_value(alloc, class, id, var)
+            let name = class_name(alloc, schema, class)?;
+            let var = var_name(alloc, schema, class, var)?;
+            Ok(ProblemFault::BadValue {
+                class: name,
+                id,
+                var,
+            })
         }
-        _ => unreachable!(),
+        _ => Err(Memory),
     }
 }

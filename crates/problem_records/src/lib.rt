@@ -1,10 +1,14 @@
-//! The records of a problem: its plan and its names, read from the facts.
+//! The records of a problem: their shape, and the plan and the names that they are.
 #![tactic(auto)]
 
+mod contents;
 mod faults;
 mod names;
+mod path;
 mod raws;
+mod record;
 mod records;
+mod shape;
 
 pub use records::{Records, read_records};
 

@@ -1,34 +1,19 @@
-ghost use Rattle.std.specs.Prelude.{◌≡◌, ◌≤◌, ◌<◌, ◌+◌, ◌*◌, [], length, map, fold, sum_by, IfOk, OnOk};
-ghost use Rattle.std.specs.List.{flat_map};
+ghost use Rattle.std.specs.Prelude.{◌≡◌, ◌≤◌, ◌<◌, ◌+◌, ◌*◌, length, map, IfOk, OnOk};
 ghost use Rattle.serde_json.specs.View.{view};
-ghost use Rattle.plan_facts.specs.Names.{with_name};
+ghost use Rattle.plan_facts.specs.Limits.{fact_limit, field_limit};
 ghost use Rattle.plan_facts.specs.Schema.{HasFewMembers};
-ghost use Rattle.problem_records.specs.Facts.{text_in, field_texts, record_texts, names_of};
+ghost use Rattle.problem_records.specs.Facts.{field_texts, record_texts, list_texts, numbered, names_of};
 ghost use Rattle.problem_records.specs.RecordFaults.{count_of};
 
-use json_values::member;
+use crate::record::{records_of, text_in};
 use plan_facts::{ClassDef, FieldDef, Kind, Memory, Names, Schema};
-use problem_shapes::records_of;
 use serde_json::Value;
 use std::alloc::Global;
 
-/// The text that the member holds; the empty one where it holds none.
-pub fn text_in<'a>(entry: &'a Value, name: &[u8]) -> &'a [u8]
-    ensures { result.now ≡ text_in name.now (view entry.now) }
-{
-    match member(entry, name) {
-        Some(value) => match value.as_str() {
-            Some(text) => text.as_bytes(),
-            None => &[],
-        },
-        None => &[],
-    }
-}
-
 /// Numbers the name that the field of the record holds, if it holds one.
 fn number_field(names: &mut Names, entry: &Value, field: &FieldDef) -> Result<(), Memory>
-    requires { length names.old < 1000000000 }
-    ensures names { OnOk result (names.new ≡ fold with_name names.old (field_texts (view entry.now) field.now)) }
+    requires { length names.old < field_limit }
+    ensures names { OnOk result (names.new ≡ numbered names.old (field_texts (view entry.now) field.now)) }
     ensures few { OnOk result (length names.new ≤ length names.old + 1) }
 {
     match field.kind {
@@ -42,9 +27,9 @@ fn number_field(names: &mut Names, entry: &Value, field: &FieldDef) -> Result<()
 
 /// Numbers the names of a record of the class.
 fn number_record(names: &mut Names, class: &ClassDef, entry: &Value) -> Result<(), Memory>
-    requires room { length names.old + 16 ≤ 320000 }
+    requires room { length names.old + 16 ≤ 16 * fact_limit }
     requires members { HasFewMembers class.now }
-    ensures names { OnOk result (names.new ≡ fold with_name names.old (record_texts class.now (view entry.now))) }
+    ensures names { OnOk result (names.new ≡ numbered names.old (record_texts class.now (view entry.now))) }
     ensures few { OnOk result (length names.new ≤ length names.old + 16) }
 {
     for field in class.fields.as_slice() {
@@ -55,9 +40,9 @@ fn number_record(names: &mut Names, class: &ClassDef, entry: &Value) -> Result<(
 
 /// Numbers the names of some records of the class.
 fn number_class(names: &mut Names, class: &ClassDef, entries: &[Value]) -> Result<(), Memory>
-    requires room { length names.old + 16 * length entries.now ≤ 320000 }
+    requires room { length names.old + 16 * length entries.now ≤ 16 * fact_limit }
     requires members { HasFewMembers class.now }
-    ensures names { OnOk result (names.new ≡ fold with_name names.old (flat_map (record_texts class.now) (map view entries.now))) }
+    ensures names { OnOk result (names.new ≡ numbered names.old (list_texts class.now (map view entries.now))) }
     ensures few { OnOk result (length names.new ≤ length names.old + 16 * length entries.now) }
 {
     for entry in entries {
@@ -69,7 +54,7 @@ fn number_class(names: &mut Names, class: &ClassDef, entries: &[Value]) -> Resul
 /// The names that the facts use, numbered in the order of first sight: class by class, records as they are listed,
 /// fields in schema order.
 pub fn names_of(alloc: Global, schema: &Schema, facts: &Value) -> Result<Names, Memory>
-    requires { count_of schema.now (view facts.now) ≤ 20000 }
+    requires { count_of schema.now (view facts.now) ≤ fact_limit }
     ensures { IfOk result (λ names. names ≡ names_of schema.now (view facts.now)) }
 {
     let mut names = Names::new(alloc);

@@ -3,6 +3,7 @@ use json_values::read_value;
 use plan_facts::{ClassDef, FieldDef, Kind, List, Memory, Schema, Text, VarDef};
 use problem_faults::ProblemFault;
 use std::alloc::Global;
+use std::process::Abort;
 use std::str;
 use std::test::Fail;
 
@@ -13,6 +14,20 @@ const ROOM: u8 = 1;
 const LESSON: u8 = 2;
 
 const BLOCK: u8 = 3;
+
+/// Adds fields of one kind to a class.
+fn add_fields(
+    class: &mut ClassDef,
+    alloc: Global,
+    names: &[&str],
+    kind: Kind,
+) -> Result<(), Memory> {
+    for name in names {
+        let name = Text::from_slice(alloc, name.as_bytes())?;
+        class.fields.push(FieldDef { name, kind })?;
+    }
+    Ok(())
+}
 
 /// A class with these name fields, then these number fields, and these variables.
 fn class_of(
@@ -27,26 +42,16 @@ fn class_of(
         fields: List::new(alloc),
         vars: List::new(alloc),
     };
-    for name in names {
-        let name = Text::from_slice(alloc, name.as_bytes())?;
-        class.fields.push(FieldDef {
-            name,
-            kind: Kind::Name,
-        })?;
-    }
-    for name in numbers {
-        let name = Text::from_slice(alloc, name.as_bytes())?;
-        class.fields.push(FieldDef {
-            name,
-            kind: Kind::Number,
-        })?;
-    }
+    add_fields(&mut class, alloc, names, Kind::Name)?;
+    add_fields(&mut class, alloc, numbers, Kind::Number)?;
     for (name, values) in vars {
         let name = Text::from_slice(alloc, name.as_bytes())?;
-        class.vars.push(VarDef {
+        let var = VarDef {
             name,
             values: *values,
-        })?;
+            nullable: false,
+        };
+        class.vars.push(var)?;
     }
     Ok(class)
 }
@@ -94,142 +99,231 @@ fn answer_to(alloc: Global, schema: &Schema, facts: &[u8]) -> Result<String, Fai
     }
 }
 
-const S1: &str = "\"timeslot\":[{\"id\":1,\"day\":1,\"start\":480,\"end\":540}]";
+/// Facts, and what they are refused for; `read` where they are read.
+const FACTS: &[(&[u8], &str)] = &[
+    (b"{}", "read"),
+    (br#"{"lesson":[],"room":[]}"#, "read"),
+    (br#"{"room":{}}"#, "shape /facts/room"),
+    (br#"{"room":[[]]}"#, "shape /facts/room/0"),
+    (br#"{"room":[{"capacity":1}]}"#, "shape /facts/room/0/id"),
+    (
+        br#"{"room":[{"id":0,"capacity":1}]}"#,
+        "shape /facts/room/0/id",
+    ),
+    (
+        br#"{"room":[{"id":1000000001,"capacity":1}]}"#,
+        "shape /facts/room/0/id",
+    ),
+    (
+        br#"{"room":[{"id":1.0,"capacity":1}]}"#,
+        "shape /facts/room/0/id",
+    ),
+    (
+        br#"{"room":[{"id":1000000000,"capacity":1},{"id":2}]}"#,
+        "shape /facts/room/1/capacity",
+    ),
+    (
+        br#"{"room":[{"id":1,"capacity":"x"}]}"#,
+        "shape /facts/room/0/capacity",
+    ),
+    (
+        br#"{"room":[{"id":1,"capacity":1,"x":1}]}"#,
+        "shape /facts/room/0",
+    ),
+    (
+        br#"{"room":[{"id":1,"capacity":1,"pinned":true}]}"#,
+        "shape /facts/room/0",
+    ),
+    (br#"{"rum":[]}"#, "shape /facts"),
+    (br#"{"rum":[],"room":[{"x":1}]}"#, "shape /facts/room/0/id"),
+    (br#"{"room":[{"id":1,"capacity":1000000000}]}"#, "read"),
+    (br#"{"room":[{"id":1,"capacity":-1000000000}]}"#, "read"),
+    (
+        br#"{"room":[{"id":1,"capacity":1000000001}]}"#,
+        "bad_field room#1 capacity",
+    ),
+    (
+        br#"{"room":[{"id":1,"capacity":-1000000001}]}"#,
+        "bad_field room#1 capacity",
+    ),
+    (
+        br#"{"room":[{"id":1,"capacity":1},{"id":1,"capacity":1}]}"#,
+        "double_id room#1",
+    ),
+];
 
-const R1: &str = "\"room\":[{\"id\":1,\"capacity\":30}]";
+/// The front of facts with one slot, one room and lessons.
+const FRONT: &[u8] =
+    br#"{"timeslot":[{"id":1,"day":1,"start":480,"end":540}],"room":[{"id":1,"capacity":30}],"lesson":["#;
 
-const LONG: &str = "aaaaaaaaaaaaaaaaaaaaaaaaaaaaaaaaaaaaaaaaaaaaaaaaaaaaaaaaaaaaaaaa";
+/// A lesson's members after its subject and before further ones.
+const LESSON_MEMBERS: &[u8] = br#","teacher":"t","group":"g","size":20"#;
 
-/// Facts with the slot and the room, and with lessons of these subjects, ids and further members.
-fn with_lessons(alloc: Global, lessons: &[(&str, u32, &str)]) -> Result<String, Fail> {
-    let mut facts = format!(in alloc; "{{{S1},{R1},\"lesson\":[")?;
-    let mut comma = "";
-    for (subject, id, more) in lessons {
-        let lesson = format!(in alloc;
-            "{comma}{{\"id\":{id},\"subject\":\"{subject}\",\"teacher\":\"t\",\"group\":\"g\",\"size\":20{more}}}"
-        )?;
-        facts.push_str(lesson.as_str())?;
-        comma = ",";
+/// A name of 64 bytes.
+const LONG: &[u8] = b"aaaaaaaaaaaaaaaaaaaaaaaaaaaaaaaaaaaaaaaaaaaaaaaaaaaaaaaaaaaaaaaa";
+
+/// A name of 65 bytes.
+const LONGER: &[u8] = b"aaaaaaaaaaaaaaaaaaaaaaaaaaaaaaaaaaaaaaaaaaaaaaaaaaaaaaaaaaaaaaaaa";
+
+/// What lessons say of their ids and further members, each with its subject, and what they are refused for.
+const LESSONS: &[(&[(&[u8], &[u8])], &str)] = &[
+    (&[(b"s", br#","id":1"#)], "read"),
+    (&[(b"s", br#","id":1,"slot":1,"room":null"#)], "read"),
+    (
+        &[
+            (b"s", br#","id":1,"pinned":true"#),
+            (b"", br#","id":2,"pinned":false,"slot":9"#),
+        ],
+        "bad_field lesson#2 subject",
+    ),
+    (
+        &[(b"s", br#","id":1,"pinned":null"#)],
+        "shape /facts/lesson/0/pinned",
+    ),
+    (
+        &[(b"s", br#","id":1,"pinned":"true","x":1"#)],
+        "shape /facts/lesson/0/pinned",
+    ),
+    (
+        &[(b"s", br#","id":1,"pinned":1,"slot":0"#)],
+        "shape /facts/lesson/0/slot",
+    ),
+    (
+        &[(b"s", br#","id":1,"pinned":true,"x":1"#)],
+        "shape /facts/lesson/0",
+    ),
+    (
+        &[(b"s", br#","id":1,"slot":"r""#)],
+        "shape /facts/lesson/0/slot",
+    ),
+    (
+        &[(b"s", br#","id":1,"slot":9"#), (b"s", br#","id":1"#)],
+        "double_id lesson#1",
+    ),
+    (&[(b"s", br#","id":1,"slot":9"#)], "bad_value lesson#1 slot"),
+    (
+        &[(b"s", br#","id":1,"slot":1,"room":2"#)],
+        "bad_value lesson#1 room",
+    ),
+    (
+        &[(b"s", br#","id":2,"slot":9"#), (b"", br#","id":1"#)],
+        "bad_field lesson#1 subject",
+    ),
+    (
+        &[(b"", br#","id":1"#), (b"s", br#","id":2,"x":1"#)],
+        "shape /facts/lesson/1",
+    ),
+    (&[(LONGER, br#","id":1"#)], "bad_field lesson#1 subject"),
+    (&[(LONG, br#","id":1"#)], "read"),
+];
+
+/// Fails where these facts aren't answered so.
+fn try_facts(
+    rt: &impl Abort,
+    alloc: Global,
+    schema: &Schema,
+    facts: &[u8],
+    want: &str,
+) -> Result<(), Fail> {
+    let answer = answer_to(alloc, schema, facts)?;
+    assert_eq!(rt; answer.as_str(), want);
+    Ok(())
+}
+
+#[test]
+fn refuses_the_first_bad_thing(rt: HostRuntime) -> Result<(), Fail> {
+    let schema = timetable(rt.alloc())?;
+    for (facts, want) in FACTS {
+        try_facts(&rt, rt.alloc(), &schema, facts, want)?;
     }
-    facts.push_str("]}")?;
+    Ok(())
+}
+
+/// Facts with a slot, a room, and these lessons.
+fn with_lessons(alloc: Global, lessons: &[(&[u8], &[u8])]) -> Result<Vec<u8>, Memory> {
+    let mut facts = Vec::from_slice(alloc, FRONT)?;
+    let mut comma: &[u8] = b"";
+    for (subject, more) in lessons {
+        facts.extend_from_slice(comma)?;
+        facts.extend_from_slice(br#"{"subject":""#)?;
+        facts.extend_from_slice(subject)?;
+        facts.push(b'"')?;
+        facts.extend_from_slice(LESSON_MEMBERS)?;
+        facts.extend_from_slice(more)?;
+        facts.push(b'}')?;
+        comma = b",";
+    }
+    facts.extend_from_slice(b"]}")?;
     Ok(facts)
 }
 
 #[test]
 fn refuses_the_first_bad_lesson(rt: HostRuntime) -> Result<(), Fail> {
-    let alloc = rt.alloc();
-    let schema = timetable(alloc)?;
-    let long = format!(in alloc; "{LONG}a")?;
-    let cases: [(&[(&str, u32, &str)], &str); 10] = [
-        (&[("s", 1, "")], "read"),
-        (&[("s", 1, ",\"slot\":1,\"room\":null")], "read"),
-        (&[(LONG, 1, "")], "read"),
-        (&[(long.as_str(), 1, "")], "bad_field lesson#1 subject"),
-        (&[("s", 7, ""), ("", 1, "")], "bad_field lesson#1 subject"),
-        (
-            &[("s", 1, ",\"slot\":9"), ("s", 1, "")],
-            "double_id lesson#1",
-        ),
-        (&[("s", 1, ",\"slot\":9")], "bad_value lesson#1 slot"),
-        (
-            &[("s", 1, ",\"slot\":1,\"room\":2")],
-            "bad_value lesson#1 room",
-        ),
-        (
-            &[("s", 2, ",\"slot\":9"), ("", 1, "")],
-            "bad_field lesson#1 subject",
-        ),
-        (
-            &[("", 1, ""), ("s", 2, ",\"x\":1")],
-            "shape /facts/lesson/1",
-        ),
-    ];
-    for (lessons, want) in cases {
-        let facts = with_lessons(alloc, lessons)?;
-        let answer = answer_to(alloc, &schema, facts.as_bytes())?;
-        assert_eq!(rt; answer.as_str(), want, "{facts}");
-    }
-    Ok(())
-}
-
-#[test]
-fn refuses_the_first_bad_room(rt: HostRuntime) -> Result<(), Fail> {
     let schema = timetable(rt.alloc())?;
-    let cases: [(&[u8], &str); 8] = [
-        (b"{}", "read"),
-        (b"{\"room\":[{\"id\":1,\"capacity\":1000000000}]}", "read"),
-        (b"{\"room\":[{\"id\":1,\"capacity\":-1000000000}]}", "read"),
-        (
-            b"{\"room\":[{\"id\":1,\"capacity\":1000000001}]}",
-            "bad_field room#1 capacity",
-        ),
-        (
-            b"{\"room\":[{\"id\":1,\"capacity\":-1000000001}]}",
-            "bad_field room#1 capacity",
-        ),
-        (
-            b"{\"room\":[{\"id\":1,\"capacity\":1},{\"id\":1,\"capacity\":1}]}",
-            "double_id room#1",
-        ),
-        (b"{\"room\":[{\"id\":1}]}", "shape /facts/room/0/capacity"),
-        (
-            b"{\"room\":[{\"id\":0,\"capacity\":1}]}",
-            "shape /facts/room/0/id",
-        ),
-    ];
-    for (facts, want) in cases {
-        let answer = answer_to(rt.alloc(), &schema, facts)?;
-        assert_eq!(rt; answer.as_str(), want);
+    for (lessons, want) in LESSONS {
+        let facts = with_lessons(rt.alloc(), lessons)?;
+        try_facts(&rt, rt.alloc(), &schema, &facts, want)?;
     }
     Ok(())
 }
 
-/// Facts with so many rooms and nothing else.
-fn with_rooms(alloc: Global, count: u32) -> Result<String, Fail> {
-    let mut facts = String::from_str(alloc, "{\"room\":[{\"id\":1,\"capacity\":1}")?;
-    for id in 2..=count {
-        let room = format!(in alloc; ",{{\"id\":{id},\"capacity\":1}}")?;
-        facts.push_str(room.as_str())?;
+/// The last digit of a number.
+fn digit(number: u32) -> u8 {
+    b"0123456789"[(number % 10) as usize]
+}
+
+/// Facts with so many rooms and nothing else, of ids of seven digits.
+fn with_rooms(alloc: Global, count: u32) -> Result<Vec<u8>, Memory> {
+    let mut facts = Vec::from_slice(alloc, br#"{"room":[{"id":1,"capacity":1}"#)?;
+    for id in 1..count {
+        facts.extend_from_slice(br#",{"id":1"#)?;
+        for place in [100_000, 10_000, 1_000, 100, 10, 1] {
+            facts.push(digit(id / place))?;
+        }
+        facts.extend_from_slice(br#","capacity":1}"#)?;
     }
-    facts.push_str("]}")?;
+    facts.extend_from_slice(b"]}")?;
     Ok(facts)
 }
 
 #[test]
-fn reads_twenty_thousand_records_and_no_more(rt: HostRuntime) -> Result<(), Fail> {
-    let alloc = rt.alloc();
-    let schema = timetable(alloc)?;
-    for (count, want) in [(20_000, "read"), (20_001, "too_many_facts")] {
-        let facts = with_rooms(alloc, count)?;
-        let answer = answer_to(alloc, &schema, facts.as_bytes())?;
-        assert_eq!(rt; answer.as_str(), want);
+fn reads_as_many_records_as_a_plan_may_have(rt: HostRuntime) -> Result<(), Fail> {
+    let schema = timetable(rt.alloc())?;
+    for (count, want) in [(100_000, "read"), (100_001, "too_many_facts")] {
+        let facts = with_rooms(rt.alloc(), count)?;
+        try_facts(&rt, rt.alloc(), &schema, &facts, want)?;
     }
     Ok(())
 }
 
+/// Facts whose names stand in no order of their own.
+const NAMED: &[u8] =
+    br#"{"block":[{"id":3,"teacher":"bob","day":2}],"room":[{"id":9,"capacity":5}],"lesson":[
+{"id":8,"subject":"maths","teacher":"ann","group":"one","size":20,"room":9,"pinned":true},
+{"id":4,"subject":"maths","teacher":"bob","group":"ann","size":-1}]}"#;
+
+/// Their records: class, id, fields, values, and whether the record is pinned.
+const RECORDS: [(u8, u32, &[i64], &[Option<u32>], bool); 4] = [
+    (ROOM, 9, &[5], &[], false),
+    (LESSON, 8, &[0, 1, 2, 20], &[None, Some(9)], true),
+    (LESSON, 4, &[0, 3, 1, -1], &[None, None], false),
+    (BLOCK, 3, &[3, 2], &[], false),
+];
+
 #[test]
 fn numbers_names_in_the_order_of_the_facts(rt: HostRuntime) -> Result<(), Fail> {
-    let alloc = rt.alloc();
-    let schema = timetable(alloc)?;
-    let text =
-        b"{\"block\":[{\"id\":3,\"teacher\":\"bob\",\"day\":2}],\"room\":[{\"id\":9,\"capacity\":5}],\"lesson\":[{\"id\":8,\"subject\":\"maths\",\"teacher\":\"ann\",\"group\":\"one\",\"size\":20,\"room\":9},{\"id\":4,\"subject\":\"maths\",\"teacher\":\"bob\",\"group\":\"ann\",\"size\":-1}]}";
-    let facts = read_value(alloc, text)?;
-    let Ok(read) = read_records(alloc, &schema, &facts) else {
+    let schema = timetable(rt.alloc())?;
+    let facts = read_value(rt.alloc(), NAMED)?;
+    let Ok(read) = read_records(rt.alloc(), &schema, &facts) else {
         return Err("refused".into());
     };
-    let cases: [(u8, u32, &[i64], &[Option<u32>]); 4] = [
-        (ROOM, 9, &[5], &[]),
-        (LESSON, 8, &[0, 1, 2, 20], &[None, Some(9)]),
-        (LESSON, 4, &[0, 3, 1, -1], &[None, None]),
-        (BLOCK, 3, &[3, 2], &[]),
-    ];
-    for (class, id, fields, values) in cases {
+    for (class, id, fields, values, pinned) in RECORDS {
         let raw = read.plan.raw(class, id).ok_or("no such record")?;
         assert_eq!(rt; raw.fields.as_slice(), fields);
         assert_eq!(rt; raw.values.as_slice(), values);
+        assert_eq!(rt; raw.pinned, pinned);
     }
-    assert_eq!(rt; read.plan.made(), 4);
-    assert_eq!(rt; read.names.count(), 4);
+    assert_eq!(rt; (read.plan.made(), read.names.count()), (4, 4));
     assert_eq!(rt; read.names.find(b"bob"), Some(3));
     Ok(())
 }

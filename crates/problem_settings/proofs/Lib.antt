@@ -1,4 +1,3 @@
 pub mod Lists
-pub mod Others
 pub mod Ranges
 pub mod Roots

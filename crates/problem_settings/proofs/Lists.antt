@@ -1,5 +1,5 @@
 -- Lists of what a call gives of each member, and what a test finds.
-use Rattle.std.proofs.Common.{◌≡◌, ◌∙◌, ℕ, suc, ◌+◌, ◌<◌, List, [], ◌∷◌, ◌++◌, Bool, true, false, cond, ◌&&◌, map, length, take, drop, get_or, Option, Some, None, find, is_some, is_none, refl, ap, sym}
+use Rattle.std.proofs.Common.{◌≡◌, ◌∙◌, ℕ, suc, ◌+◌, ◌<◌, List, [], ◌∷◌, ◌++◌, Bool, true, false, cond, ◌&&◌, map, length, take, drop, get_or, Option, Some, None, find, option_map, is_some, is_none, refl, ap, sym}
 use Rattle.std.specs.List.{list_all, filter_map, cons_option}
 use Rattle.std.specs.Option.{option_or}
 use Rattle.std.proofs.Math.Seq.{drop-cons}
@@ -61,6 +61,11 @@ length-filter_map h [] all = refl
 length-filter_map h (x ∷ xs) all =
     let parts = both (is_some (h x)) (list_all (λ x. is_some (h x)) xs) all in
     counted (h x) (filter_map h xs) parts.0 ∙ ap suc (length-filter_map h xs parts.1)
+
+-- what is made of nothing is nothing
+pub nothing_mapped : {A B : Type 0} (f : A → B) (o : Option A) → option_map f o ≡ None → o ≡ None
+nothing_mapped f None e = refl
+nothing_mapped f (Some x) e = cc
 
 given_of_all : {A B : Type 0} (o : Option B) (x : A) (rest : Option A) → cond (is_none o) (Some x) rest ≡ None → (is_some o ≡ true) × (rest ≡ None)
 given_of_all (Some y) x rest e = (refl, e)

@@ -1,5 +1,5 @@
 -- Numbers and counts within their ranges.
-use Rattle.std.proofs.Common.{◌≡◌, ◌∙◌, ℕ, ◌≤◌, ℤ, pos, negsuc, Bool, true, false, ◌&&◌, not, cond, nat_le, List, [], ◌∷◌, map, length, Option, Some, None, find, is_some, unwrap_or, option_and_then, All, refl, sym, subst, arith}
+use Rattle.std.proofs.Common.{◌≡◌, ◌∙◌, ℕ, ◌≤◌, ℤ, pos, negsuc, Bool, true, false, ◌&&◌, not, cond, nat_le, List, [], ◌∷◌, map, length, Option, Some, None, find, is_some, option_map, unwrap_or, option_and_then, All, refl, sym, subst, arith}
 use Rattle.std.specs.List.{list_all, filter_map, cons_option, AllByRecursion}
 use Rattle.std.specs.Option.{option_map_or, option_or}
 use Rattle.std.proofs.lemmas.List.{length-map}
@@ -11,17 +11,20 @@ use Rattle.serde_json.specs.Find.{get}
 use Rattle.serde_json.specs.View.{view}
 use Rattle.serde_json.specs.declared.value.Value.{Value}
 use Rattle.json_values.specs.Values.{within, whole_number, number_within, items_of}
-use Rattle.plan_settings.specs.Settings.{IsSize, IsInRange, all_settings, usual_settings}
+use Rattle.plan_settings.specs.Settings.{is_selector_count, IsSize, IsInRange, usual_settings}
 use Rattle.plan_settings.specs.declared.setting.Selector.{Selector}
-use Rattle.plan_settings.specs.declared.setting.Setting.TheVariants.{Seed, Steps, SelectLimit, AcceptedLimit, PickEarly, Acceptor, LateSize, TabuSize, StepCountSize, Selectors}
+use Rattle.plan_settings.specs.declared.setting.Setting.{Setting}
+use Rattle.plan_settings.specs.declared.setting.Setting.TheVariants.{Seed, Steps, SelectLimit, AcceptedLimit, PickEarly, Acceptor, LateSize, TabuSize, StepCountSize, Selectors, Construction}
+use Rattle.problem_settings.specs.declared.root.Format.{Format}
+use Rattle.problem_settings.specs.declared.root.Format.TheVariants.{One, Two}
 use Rattle.problem_settings.specs.Words.{selector_of}
 use Rattle.problem_settings.proofs.Lists.{length-filter_map}
 use Rattle.plan_rules.specs.declared.rule.RuleDef.{RuleDef}
 use Rattle.problem_settings.specs.Weights.{weight_of, weights_of}
-use Rattle.problem_settings.specs.SettingsOf.{size_of, is_few, are_selectors, is_right, given, is_bad, settings_of}
+use Rattle.problem_settings.specs.SettingsOf.{size_of, are_selectors, is_right, given, is_bad, known_settings, selectors_of, settings_of}
 
 -- values that are seen one by one
-pub are_selectors-view : (vs : List Value) → are_selectors (map view vs) ≡ (is_few (length vs) && list_all (λ v. is_some (selector_of (view v))) vs)
+pub are_selectors-view : (vs : List Value) → are_selectors (map view vs) ≡ (is_selector_count (length vs) && list_all (λ v. is_some (selector_of (view v))) vs)
 are_selectors-view vs = rw (length-map vs view, list_all-map (λ v. is_some (selector_of v)) view vs) refl
 
 -- a number lies between two others
@@ -53,46 +56,54 @@ later : {A : Type 0} (o q : Option A) → option_or o q ≡ None → q ≡ None
 later None q e = e
 later (Some x) q e = cc
 
-not_found : {A : Type 0} (b : Bool) (x : A) → cond b (Some x) None ≡ None → b ≡ false
-not_found true x e = cc
-not_found false x e = refl
+past : {A : Type 0} (p : A → Bool) (x : A) (xs : List A) → find p (x ∷ xs) ≡ None → (p x ≡ false) × (find p xs ≡ None)
+past p x xs none = tested (p x) refl none
+  where
+    tested : (b : Bool) → p x ≡ b → cond b (Some x) (find p xs) ≡ None → (p x ≡ false) × (find p xs ≡ None)
+    tested true is e = cc
+    tested false is e = (is, e)
 
--- where no setting is bad, the selectors aren't
-selectors_right : (settings : Option Data) → find (is_bad settings) all_settings ≡ None → is_bad settings Selectors ≡ false
-selectors_right settings none =
+-- what isn't found isn't the tenth setting
+tenth : (p : Setting → Bool) (rest : List Setting) → find p (Seed ∷ Steps ∷ SelectLimit ∷ AcceptedLimit ∷ PickEarly ∷ Acceptor ∷ LateSize ∷ TabuSize ∷ StepCountSize ∷ Selectors ∷ rest) ≡ None → p Selectors ≡ false
+tenth p rest none =
     let before = Seed ∷ Steps ∷ SelectLimit ∷ AcceptedLimit ∷ PickEarly ∷ Acceptor ∷ LateSize ∷ TabuSize ∷ StepCountSize ∷ [] in
-    not_found (is_bad settings Selectors) Selectors (later (find (is_bad settings) before) (find (is_bad settings) (Selectors ∷ [])) (sym (find-append (is_bad settings) before (Selectors ∷ [])) ∙ none))
+    (past p Selectors rest (later (find p before) (find p (Selectors ∷ rest)) (sym (find-append p before (Selectors ∷ rest)) ∙ none))).0
 
-few : (n : ℕ) → is_few n ≡ true → IsBetween 1 8 n
+-- where no setting of a format is bad, the selectors aren't
+selectors_right : (format : Format) (settings : Option Data) → find (is_bad settings) (known_settings format) ≡ None → is_bad settings Selectors ≡ false
+selectors_right One settings none = tenth (is_bad settings) [] none
+selectors_right Two settings none = tenth (is_bad settings) (Construction ∷ []) none
+
+few : (n : ℕ) → is_selector_count n ≡ true → IsBetween 1 8 n
 few n e = record { least = grind (arith, nat_tests); most = grind (arith, nat_tests) }
 
-few_listed : (values : List Data) (a b : Bool) → is_few (length values) ≡ a → list_all (λ v. is_some (selector_of v)) values ≡ b → not (a && b) ≡ false
+few_listed : (values : List Data) (a b : Bool) → is_selector_count (length values) ≡ a → list_all (λ v. is_some (selector_of v)) values ≡ b → not (a && b) ≡ false
     → IsBetween 1 8 (length (filter_map selector_of values))
 few_listed values true true e f g = rw (length-filter_map selector_of values f) (few (length values) e)
 few_listed values true false e f g = cc
 few_listed values false b e f g = cc
 
 few_items : (items : Option (List Data)) (usual : List Selector) → not (option_map_or are_selectors items false) ≡ false
-    → IsBetween 1 8 (length (option_map_or (filter_map selector_of) items usual))
+    → IsBetween 1 8 (length (unwrap_or (option_map (filter_map selector_of) items) usual))
 few_items None usual e = cc
-few_items (Some values) usual e = few_listed values (is_few (length values)) (list_all (λ v. is_some (selector_of v)) values) refl refl e
+few_items (Some values) usual e = few_listed values (is_selector_count (length values)) (list_all (λ v. is_some (selector_of v)) values) refl refl e
 
 few_given : (value : Option Data) → option_map_or (λ value. not (is_right Selectors value)) value false ≡ false
-    → IsBetween 1 8 (length (option_map_or (filter_map selector_of) (option_and_then items_of value) usual_settings.selectors))
+    → IsBetween 1 8 (length (unwrap_or (option_and_then selectors_of value) usual_settings.selectors))
 few_given None e = record { least = omega arith; most = omega arith }
 few_given (Some d) e = few_items (items_of d) usual_settings.selectors e
 
 -- where no setting is bad, the settings are in range
-pub in_range : (settings : Option Data) → find (is_bad settings) all_settings ≡ None → IsInRange (settings_of settings)
-in_range settings none =
-    let selectors = few_given (given settings Selectors) (selectors_right settings none) in
+pub in_range : (format : Format) (settings : Option Data) → find (is_bad settings) (known_settings format) ≡ None → IsInRange (settings_of settings)
+in_range format settings none =
+    let selectors = few_given (given Selectors settings) (selectors_right format settings none) in
     record {
-      steps = (given-between 0 1000000 1000 (given settings Steps) (record { least = omega arith; most = omega arith })).most;
-      select_limit = given-size 1000 (given settings SelectLimit) (record { least = omega arith; most = omega arith });
-      accepted_limit = given-size 1 (given settings AcceptedLimit) (record { least = omega arith; most = omega arith });
-      late_size = given-size 400 (given settings LateSize) (record { least = omega arith; most = omega arith });
-      tabu_size = given-size 7 (given settings TabuSize) (record { least = omega arith; most = omega arith });
-      step_count_size = given-size 400 (given settings StepCountSize) (record { least = omega arith; most = omega arith });
+      steps = (given-between 0 1000000 1000 (given Steps settings) (record { least = omega arith; most = omega arith })).most;
+      select_limit = given-size 1000 (given SelectLimit settings) (record { least = omega arith; most = omega arith });
+      accepted_limit = given-size 1 (given AcceptedLimit settings) (record { least = omega arith; most = omega arith });
+      late_size = given-size 400 (given LateSize settings) (record { least = omega arith; most = omega arith });
+      tabu_size = given-size 7 (given TabuSize settings) (record { least = omega arith; most = omega arith });
+      step_count_size = given-size 400 (given StepCountSize settings) (record { least = omega arith; most = omega arith });
       some_selector = selectors.least;
       few_selectors = selectors.most;
     }

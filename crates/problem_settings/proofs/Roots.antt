@@ -1,12 +1,9 @@
 -- What a root without a flaw has.
-use Rattle.std.proofs.Common.{◌≡◌, Bool, true, false, not, cond, codes, Option, Some, None, option_map, refl}
+use Rattle.std.proofs.Common.{◌≡◌, Bool, true, false, not, cond, codes, Option, Some, None, refl}
 use Rattle.serde_json.specs.Data.{Data}
-use Rattle.json_values.specs.Values.{is_object, is_text}
-use Rattle.problem_settings.specs.Root.{must_be, may_be, is_format, root_flaw}
-
-nothing_mapped : {A B : Type 0} (f : A → B) (o : Option A) → option_map f o ≡ None → o ≡ None
-nothing_mapped f None e = refl
-nothing_mapped f (Some x) e = cc
+use Rattle.json_values.specs.Values.{is_object, is_text, must_be, may_be}
+use Rattle.problem_settings.proofs.Lists.{nothing_mapped}
+use Rattle.problem_settings.specs.Root.{is_format, root_flaw}
 
 passed : {A : Type 0} (b : Bool) (x : A) (rest : Option A) → cond (not b) (Some x) rest ≡ None → (b ≡ true) × (rest ≡ None)
 passed true x rest e = (refl, e)

@@ -1,23 +1,23 @@
 -- What the root of a problem must be.
-use Rattle.std.specs.Prelude.{ℕ, Bool, true, false, not, List, [], ◌∷◌, Option, codes, find, option_map, is_some}
-use Rattle.std.specs.Option.{option_map_or}
+use Rattle.std.specs.Prelude.{ℕ, Bool, not, List, [], ◌∷◌, Option, codes, find, option_map, is_some, if◌then◌else◌}
 use Rattle.serde_json.specs.Data.{Data}
-use Rattle.serde_json.specs.Find.{get}
-use Rattle.json_values.specs.Values.{is_object, is_text, number_within, has_other}
+use Rattle.json_values.specs.Values.{is_object, is_text, number_within, has_other, must_be, may_be}
 use Rattle.problem_faults.specs.declared.fault.ProblemFault.{ProblemFault}
 use Rattle.problem_faults.specs.declared.fault.ProblemFault.TheVariants.{Shape}
+use Rattle.problem_settings.specs.declared.root.Format.{Format}
+use Rattle.problem_settings.specs.declared.root.Format.TheVariants.{One, Two}
 
--- the root has the member, and the test holds of it
-abbrev pub must_be : (Data → Bool) → List ℕ → Data → Bool
-must_be test name root = option_map_or test (get name root) false
-
--- the test holds of the member where the root has it
-abbrev pub may_be : (Data → Bool) → List ℕ → Data → Bool
-may_be test name root = option_map_or test (get name root) true
-
--- the number of the one format
+-- the number of a format
 abbrev pub is_format : Data → Bool
-is_format value = is_some (number_within 1 1 value)
+is_format value = is_some (number_within 1 2 value)
+
+-- the number of format 2
+abbrev pub is_second : Data → Bool
+is_second value = is_some (number_within 2 2 value)
+
+-- the format that a root names
+abbrev pub format_of : Data → Format
+format_of root = if must_be is_second (codes "format") root then Two else One
 
 -- the names of the members that a root may have
 abbrev pub root_names : List (List ℕ)

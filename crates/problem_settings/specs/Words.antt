@@ -9,6 +9,8 @@ use Rattle.plan_settings.specs.declared.setting.AcceptorKind.{AcceptorKind}
 use Rattle.plan_settings.specs.declared.setting.AcceptorKind.TheVariants.{Hill, Late, Tabu, StepCount}
 use Rattle.plan_settings.specs.declared.setting.Selector.{Selector}
 use Rattle.plan_settings.specs.declared.setting.Selector.TheVariants.{Change, Swap, PillarChange, PillarSwap, Own}
+use Rattle.plan_settings.specs.declared.setting.Construction.{Construction}
+use Rattle.plan_settings.specs.declared.setting.Construction.TheVariants.{FirstFit, Decreasing}
 
 -- the word of each kind of early end
 abbrev pub early_word : Early → List ℕ
@@ -31,6 +33,11 @@ selector_word PillarChange = codes "pillar_change"
 selector_word PillarSwap = codes "pillar_swap"
 selector_word Own = codes "own"
 
+-- the word of each order of placing
+abbrev pub construction_word : Construction → List ℕ
+construction_word FirstFit = codes "first_fit"
+construction_word Decreasing = codes "first_fit_decreasing"
+
 -- the one of some choices that has the word; none where none has
 abbrev pub chosen : {A : Type 0} → (A → List ℕ) → List A → List ℕ → Option A
 chosen word_of choices word = find (λ choice. bytes_eq word (word_of choice)) choices
@@ -47,6 +54,10 @@ acceptor_named word = chosen acceptor_word (Hill ∷ Late ∷ Tabu ∷ StepCount
 abbrev pub selector_named : List ℕ → Option Selector
 selector_named word = chosen selector_word (Change ∷ Swap ∷ PillarChange ∷ PillarSwap ∷ Own ∷ []) word
 
+-- the order of placing that has the word
+abbrev pub construction_named : List ℕ → Option Construction
+construction_named word = chosen construction_word (FirstFit ∷ Decreasing ∷ []) word
+
 -- the early end that a value names; none where it is no text or another one
 abbrev pub early_of : Data → Option Early
 early_of value = option_and_then early_named (as_str value)
@@ -58,3 +69,7 @@ acceptor_of value = option_and_then acceptor_named (as_str value)
 -- the selector that a value names; none where it is no text or another one
 abbrev pub selector_of : Data → Option Selector
 selector_of value = option_and_then selector_named (as_str value)
+
+-- the order of placing that a value names; none where it is no text or another one
+abbrev pub construction_of : Data → Option Construction
+construction_of value = option_and_then construction_named (as_str value)

@@ -8,6 +8,6 @@ mod tests;
 mod weights;
 mod words;
 
-pub use root::check_root;
+pub use root::{Format, check_root};
 pub use settings::read_settings;
 pub use weights::read_weights;

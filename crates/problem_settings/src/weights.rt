@@ -1,18 +1,19 @@
-ghost use Rattle.std.specs.Prelude.{◌≡◌, ◌≤◌, None, false, Some, All, IfOk, IfErr, OnOk, map, find, not, length, is_none, string_bytes, option_map};
-ghost use Rattle.std.specs.List.{filter_map, list_any};
-ghost use Rattle.std.specs.Option.{option_map_or};
+ghost use Rattle.std.specs.Prelude.{◌≡◌, ◌≤◌, Some, All, IfOk, length};
+ghost use Rattle.std.specs.List.{list_any};
 ghost use Rattle.std.specs.Str.{bytes_eq};
-ghost use Rattle.std.specs.BTreeMap.{keys};
 ghost use Rattle.serde_json.specs.View.{view};
 ghost use Rattle.json_values.specs.Values.{has_other};
-ghost use Rattle.problem_faults.specs.Refusals.{IsRefusal};
-ghost use Rattle.problem_settings.specs.Weights.{weight_of, weights_of, first_unweighed, unweighed_fault, weights_fault};
+ghost use Rattle.json_values.specs.Views.{view_at};
+ghost use Rattle.plan_facts.specs.Limits.{weight_limit};
+ghost use Rattle.plan_facts.specs.Refusal.{IsRefusal};
+ghost use Rattle.problem_faults.specs.Refusals.{RefusesFor};
+ghost use Rattle.problem_settings.specs.Weights.{weight_of, weights_of, unweighed_fault, rules_fault, rule_names, has_unknown_rule, weights_fault};
 
-use json_values::{member, number_within};
+use json_values::{has_other, member, number_within};
 use plan_facts::List;
-use plan_rules::RuleDef;
+use plan_rules::{RuleDef, WEIGHT_LIMIT};
 use problem_faults::ProblemFault;
-use serde_json::{Map, Value};
+use serde_json::Value;
 use std::alloc::Global;
 
 /// Reads one weight for each rule, in the rules' order, from a problem's member `weights`, where there is one: an object. A
@@ -23,11 +24,10 @@ pub fn read_weights(
     rules: &[RuleDef],
     weights: Option<&Value>,
 ) -> Result<List<u32>, ProblemFault>
-    ensures ok { OnOk result (weights_fault rules.now (option_map (λ value. view value.now) weights.entry) ≡ None) }
-    ensures weights { IfOk result (λ read. read ≡ weights_of rules.now (option_map (λ value. view value.now) weights.entry)) }
+    ensures refusal { RefusesFor (weights_fault rules.now (view_at weights.entry)) result }
+    ensures weights { IfOk result (λ read. read ≡ weights_of rules.now (view_at weights.entry)) }
     ensures each { IfOk result (λ read. length read ≡ length rules.now) }
-    ensures in_range { All (λ rule. rule.weight ≤ 1000000) rules.now → IfOk result (All (λ weight. weight ≤ 1000000)) }
-    ensures err { IfErr result (IsRefusal (weights_fault rules.now (option_map (λ value. view value.now) weights.entry))) }
+    ensures in_range { All (λ rule. rule.weight ≤ weight_limit) rules.now → IfOk result (All (λ w. w ≤ weight_limit)) }
 {
     let read = rule_weights(alloc, rules, weights)?;
     if has_unknown(rules, weights) {
@@ -42,9 +42,8 @@ fn rule_weights(
     rules: &[RuleDef],
     weights: Option<&Value>,
 ) -> Result<List<u32>, ProblemFault>
-    ensures ok { OnOk result (first_unweighed (option_map (λ value. view value.now) weights.entry) rules.now ≡ None) }
-    ensures weights { IfOk result (λ read. read ≡ weights_of rules.now (option_map (λ value. view value.now) weights.entry)) }
-    ensures err { IfErr result (IsRefusal (option_map (λ rule. unweighed_fault rule) (first_unweighed (option_map (λ value. view value.now) weights.entry) rules.now))) }
+    ensures refusal { RefusesFor (rules_fault rules.now (view_at weights.entry)) result }
+    ensures weights { IfOk result (λ read. read ≡ weights_of rules.now (view_at weights.entry)) }
 {
     let mut read = List::new(alloc);
     for rule in rules {
@@ -58,24 +57,24 @@ fn rule_weights(
 
 /// The fault of a rule that gets no weight.
 fn unweighed(alloc: Global, rule: &RuleDef) -> ProblemFault
-    ensures { IsRefusal (Some (unweighed_fault rule.now)) result }
+    ensures { IsRefusal ProblemFault.Memory (Some (unweighed_fault rule.now)) result }
 {
     ProblemFault::shape(alloc, &[b"/weights/", rule.name.as_slice()])
 }
 
 /// The weight of a rule: the given one, or its own where none is given; none where the given one isn't right.
 fn weight(rule: &RuleDef, weights: Option<&Value>) -> Option<u32>
-    ensures { result ≡ weight_of (option_map (λ value. view value.now) weights.entry) rule.now }
+    ensures { result ≡ weight_of (view_at weights.entry) rule.now }
 {
     match weights.and_then(|object| member(object, rule.name.as_slice())) {
-        Some(value) => number_within(value, 0, 1_000_000),
+        Some(value) => number_within(value, 0, WEIGHT_LIMIT),
         None => Some(rule.weight),
     }
 }
 
 /// Whether there is a member that is no rule's name.
 fn has_unknown(rules: &[RuleDef], weights: Option<&Value>) -> bool
-    ensures { result ≡ option_map_or (has_other (map (λ rule. rule.name) rules.now)) (option_map (λ value. view value.now) weights.entry) false }
+    ensures { result ≡ has_unknown_rule rules.now (view_at weights.entry) }
 {
     match weights {
         Some(object) => has_unknown_member(rules, object),
@@ -85,19 +84,9 @@ fn has_unknown(rules: &[RuleDef], weights: Option<&Value>) -> bool
 
 /// Whether the object has a member that is no rule's name.
 fn has_unknown_member(rules: &[RuleDef], object: &Value) -> bool
-    ensures { result ≡ has_other (map (λ rule. rule.name) rules.now) (view object.now) }
+    ensures { result ≡ has_other (rule_names rules.now) (view object.now) }
 {
-    match object.as_object() {
-        Some(members) => has_unknown_key(rules, members),
-        None => false,
-    }
-}
-
-/// Whether a key is no rule's name.
-fn has_unknown_key(rules: &[RuleDef], members: &Map<String, Value>) -> bool
-    ensures { result ≡ list_any (λ key. not (list_any (λ rule. bytes_eq (string_bytes key) rule.name) rules.now)) (keys members.now) }
-{
-    members.keys().any(|key| !is_name(rules, key.as_bytes()))
+    has_other(object, |name| is_name(rules, name))
 }
 
 /// Whether one of the rules has the name.

@@ -1,8 +1,8 @@
 ghost use Rattle.std.specs.Prelude.{◌≡◌};
 ghost use Rattle.serde_json.specs.View.{view};
-ghost use Rattle.problem_settings.specs.Words.{early_named, acceptor_named, selector_named, early_of, acceptor_of, selector_of};
+ghost use Rattle.problem_settings.specs.Words.{early_named, acceptor_named, selector_named, construction_named, early_of, acceptor_of, selector_of, construction_of};
 
-use plan_settings::{AcceptorKind, Early, Selector};
+use plan_settings::{AcceptorKind, Construction, Early, Selector};
 use serde_json::Value;
 
 /// The early end that has the word.
@@ -44,6 +44,19 @@ fn selector_named(word: &[u8]) -> Option<Selector>
     }
 }
 
+/// The order of placing that has the word.
+fn construction_named(word: &[u8]) -> Option<Construction>
+    ensures { result ≡ construction_named word.now }
+{
+    if word == b"first_fit".as_slice() {
+        Some(Construction::FirstFit)
+    } else if word == b"first_fit_decreasing".as_slice() {
+        Some(Construction::Decreasing)
+    } else {
+        None
+    }
+}
+
 /// The early end that the value names.
 pub fn early(value: &Value) -> Option<Early>
     ensures { result ≡ early_of (view value.now) }
@@ -63,4 +76,11 @@ pub fn selector(value: &Value) -> Option<Selector>
     ensures { result ≡ selector_of (view value.now) }
 {
     selector_named(value.as_str()?.as_bytes())
+}
+
+/// The order of placing that the value names.
+pub fn construction(value: &Value) -> Option<Construction>
+    ensures { result ≡ construction_of (view value.now) }
+{
+    construction_named(value.as_str()?.as_bytes())
 }

@@ -1,2 +1,3 @@
-mod Pairs
+mod Grown
+mod Members
 mod Parts

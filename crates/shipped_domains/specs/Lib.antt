@@ -1,1 +1,4 @@
 pub mod Catalog
+pub mod Handed
+pub mod Meaning
+pub mod Numbered

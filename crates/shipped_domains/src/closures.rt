@@ -1,62 +1,40 @@
-ghost use Rattle.std.specs.Prelude.{◌≡◌, ◌++◌, map};
-ghost use Rattle.plan_rules.specs.Range.{Capped};
-ghost use Rattle.domain_timetable.specs.Names.{timetable_numbers};
-ghost use Rattle.domain_roster.specs.Names.{roster_numbers};
-ghost use Rattle.shipped_domains.specs.Catalog.{weighers_of};
+ghost use Rattle.plan_rules.specs.Meaning.{KeyAnswers, TestAnswers, WeighAnswers};
+ghost use Rattle.domain_words.specs.Numbers.{weight_cap};
+ghost use Rattle.shipped_domains.specs.Meaning.{shipped_test, shipped_key, shipped_weight};
 
-use plan_domains::{ShippedKey, ShippedTest, ShippedWeigh};
-use plan_facts::Memory;
+use plan_rules::{KeyBody, TestBody, WeighBody};
 
-/// All closures of both domains, those of the timetable first.
+/// A test that answers what the book says of its number.
 #[derive(Drop)]
-pub(crate) struct Closures {
-    pub(crate) tests: Vec<ShippedTest>,
-    pub(crate) keys: Vec<ShippedKey>,
-    pub(crate) weighers: Vec<ShippedWeigh>,
-    pub(crate) ghost tests_are_all: { map (λ closure. closure.number) tests.items ≡ timetable_numbers.tests ++ roster_numbers.tests },
-    pub(crate) ghost keys_are_all: { map (λ closure. closure.number) keys.items ≡ timetable_numbers.keys ++ roster_numbers.keys },
-    pub(crate) ghost weighers_are_all: { map (λ closure. closure.number) weighers.items ≡ timetable_numbers.weighs ++ roster_numbers.weighs },
-    pub(crate) ghost weighers_are_capped: { map {B = Capped} (λ closure. record { number = closure.number; cap = closure.cap }) weighers.items ≡ weighers_of (timetable_numbers.weighs ++ roster_numbers.weighs) },
+pub struct ShippedTest {
+    pub number: u16,
+    pub body: TestBody,
+    pub ghost callable: { TestBody.IsAlwaysCallable body },
+    pub ghost answers: { TestAnswers (TestBody.post body) (shipped_test number) },
 }
 
-/// All closures of the timetable.
+/// A key that answers what the book says of its number.
 #[derive(Drop)]
-pub(crate) struct LessonClosures {
-    pub(crate) tests: Vec<ShippedTest>,
-    pub(crate) keys: Vec<ShippedKey>,
-    pub(crate) weighers: Vec<ShippedWeigh>,
-    pub(crate) ghost tests_are_all: { map (λ closure. closure.number) tests.items ≡ timetable_numbers.tests },
-    pub(crate) ghost keys_are_all: { map (λ closure. closure.number) keys.items ≡ timetable_numbers.keys },
-    pub(crate) ghost weighers_are_all: { map (λ closure. closure.number) weighers.items ≡ timetable_numbers.weighs },
-    pub(crate) ghost weighers_are_capped: { map {B = Capped} (λ closure. record { number = closure.number; cap = closure.cap }) weighers.items ≡ weighers_of timetable_numbers.weighs },
+pub struct ShippedKey {
+    pub number: u16,
+    pub body: KeyBody,
+    pub ghost callable: { KeyBody.IsAlwaysCallable body },
+    pub ghost answers: { KeyAnswers (KeyBody.post body) (shipped_key number) },
 }
 
-/// All closures of the roster.
+/// A weigher that answers what the book says of its number, and at most 10,000.
 #[derive(Drop)]
-pub(crate) struct ShiftClosures {
-    pub(crate) tests: Vec<ShippedTest>,
-    pub(crate) keys: Vec<ShippedKey>,
-    pub(crate) weighers: Vec<ShippedWeigh>,
-    pub(crate) ghost tests_are_all: { map (λ closure. closure.number) tests.items ≡ roster_numbers.tests },
-    pub(crate) ghost keys_are_all: { map (λ closure. closure.number) keys.items ≡ roster_numbers.keys },
-    pub(crate) ghost weighers_are_all: { map (λ closure. closure.number) weighers.items ≡ roster_numbers.weighs },
-    pub(crate) ghost weighers_are_capped: { map {B = Capped} (λ closure. record { number = closure.number; cap = closure.cap }) weighers.items ≡ weighers_of roster_numbers.weighs },
+pub struct ShippedWeigh {
+    pub number: u16,
+    pub body: WeighBody,
+    pub ghost callable: { WeighBody.IsAlwaysCallable body },
+    pub ghost answers: { WeighAnswers (WeighBody.post body) weight_cap (shipped_weight number) },
 }
 
-/// The closures of each domain.
-pub(crate) fn parted(all: Closures) -> Result<(LessonClosures, ShiftClosures), Memory> {
-    let mut tests = all.tests;
-    let mut keys = all.keys;
-    let mut weighers = all.weighers;
-    let shifts = ShiftClosures {
-        tests: tests.split_off(domain_timetable::TESTS.len())?,
-        keys: keys.split_off(domain_timetable::KEYS.len())?,
-        weighers: weighers.split_off(domain_timetable::WEIGHERS.len())?,
-    };
-    let lessons = LessonClosures {
-        tests,
-        keys,
-        weighers,
-    };
-    Ok((lessons, shifts))
+/// The closures that a domain's rules ask, in order.
+#[derive(Drop)]
+pub struct Closures {
+    pub tests: Vec<ShippedTest>,
+    pub keys: Vec<ShippedKey>,
+    pub weighers: Vec<ShippedWeigh>,
 }

@@ -22,3 +22,11 @@ pub fn report(
 pub fn no_memory() -> io::Error {
     io::Error::from(io::ErrorKind::OutOfMemory)
 }
+
+/// How long each of `count` calls took since `start`, in tenths of a nanosecond.
+pub fn tenths_since(rt: &impl Clock, start: Instant, count: u64) -> io::Result<u64> {
+    let end = Instant::now(rt)?;
+    let nanos = end.saturating_duration_since(start).as_nanos();
+    let tenths = nanos.saturating_mul(10) / u128::from(count.max(1));
+    Ok(u64::try_from(tenths).unwrap_or(u64::MAX))
+}

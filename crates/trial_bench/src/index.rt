@@ -11,12 +11,12 @@ use std::time::Instant;
 use stream_index::Index;
 
 /// The key of a place, of which ten places in a filled index have each.
-fn key_of(place: u64, size: u64) -> i64 {
+pub fn key_of(place: u64, size: u64) -> i64 {
     let keys = (size / 10).max(1);
     (place % keys % 1000000000) as i64
 }
 
-fn fill(index: &mut Index, size: u64) -> Result<(), Memory>
+pub fn fill(index: &mut Index, size: u64) -> Result<(), Memory>
     requires free { IsFreeFrom 0 index.old.now }
     ensures free { OnOk result (IsFreeFrom size index.new.now) }
     ensures open { index.new.is_open ≡ index.old.is_open }
@@ -28,7 +28,7 @@ fn fill(index: &mut Index, size: u64) -> Result<(), Memory>
 }
 
 /// Puts an entry more and kills it again, so many times.
-fn renew(index: &mut Index, size: u64, count: u64) -> Result<(), Memory>
+pub fn renew(index: &mut Index, size: u64, count: u64) -> Result<(), Memory>
     requires { IsFreeFrom size index.old.now }
     ensures free { OnOk result (IsFreeFrom size index.new.now) }
     ensures open { index.new.is_open ≡ index.old.is_open }
@@ -42,7 +42,7 @@ fn renew(index: &mut Index, size: u64, count: u64) -> Result<(), Memory>
 }
 
 /// Puts an entry more, kills it, puts it again, and takes all back, so many times.
-fn try_out(index: &mut Index, size: u64, count: u64) -> Result<(), Memory>
+pub fn try_out(index: &mut Index, size: u64, count: u64) -> Result<(), Memory>
     requires free { IsFreeFrom size index.old.now }
     requires open { index.old.is_open ≡ false }
     ensures free { OnOk result (IsFreeFrom size index.new.now) }
@@ -59,7 +59,7 @@ fn try_out(index: &mut Index, size: u64, count: u64) -> Result<(), Memory>
     Ok(())
 }
 
-/// How many places so many look-ups give.
+/// How many places so many look-ups give, in increasing order.
 fn look_up(index: &Index, into: &mut List<u64>, size: u64, count: u64) -> Result<u64, Memory> {
     let mut hits = 0u64;
     for round in 0..count {
@@ -68,6 +68,17 @@ fn look_up(index: &Index, into: &mut List<u64>, size: u64, count: u64) -> Result
         while into.pop().is_some() {}
     }
     Ok(hits)
+}
+
+/// What the places in so many buckets come to.
+pub fn read_buckets(index: &Index, size: u64, count: u64) -> u64 {
+    let mut sum = 0u64;
+    for round in 0..count {
+        for place in index.bucket(&[key_of(round, size)]) {
+            sum = sum.wrapping_add(*place);
+        }
+    }
+    sum
 }
 
 /// Drives an index at a size.

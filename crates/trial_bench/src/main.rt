@@ -1,9 +1,11 @@
-//! Drives a store and an index at two sizes, and prints counts of what they hold; with the word `times` also how
-//! long the calls took, to standard error, after a million trials.
+//! Drives a store and an index at two sizes, and an index beside a plain map of lists, and prints counts of what they
+//! hold; with the word `times` also how long the calls took, to standard error, after a million trials.
 #![tactic(auto)]
 
+mod beside;
 mod clocked;
 mod index;
+mod plain;
 mod store;
 
 use std::{env, io};
@@ -19,6 +21,7 @@ fn main(rt: HostRuntime) -> io::Result<()> {
     for size in [1000, 100000] {
         store::drive(&rt, rt.alloc(), times, size, rounds)?;
         index::drive(&rt, rt.alloc(), times, size, rounds)?;
+        beside::drive(&rt, rt.alloc(), times, size)?;
     }
     Ok(())
 }

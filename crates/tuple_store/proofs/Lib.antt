@@ -1,5 +1,6 @@
 pub mod LiveLaws
 pub mod LogLaws
+pub mod MapLaws
 pub mod NumberLaws
 pub mod RowLaws
 pub mod TrialLaws

@@ -101,8 +101,3 @@ numbers_above-none after rows h = above_none after (entries rows) (λ q up. sym 
 pub numbers_above-first : {X : Type 0} (after : Option ℕ) (n : ℕ) (rows : finmap.FinMap nat_cmp X) → is_above after n ≡ true → is_some (finmap.get rows n) ≡ true → ((q : ℕ) → is_above after q ≡ true → q < n → finmap.get rows q ≡ None) → numbers_above after rows ≡ n ∷ numbers_above (Some n) rows
 numbers_above-first after n rows up live least =
     above_first after n (entries rows) (from_T _ (entries_sorted rows)) up (λ x lt. is_above-more after n x up lt) (ap is_some (sym (get-entries rows n)) ∙ live) (λ q yes lt. sym (get-entries rows q) ∙ least q yes lt)
-
--- the least number that shows a row above `after`, and then those above it
-pub first_number : {X : Type 0} (after : Option ℕ) (rows : finmap.FinMap nat_cmp X) (r : Option ℕ) → IfSome r (λ n. (is_above after n ≡ true) × (is_some (finmap.get rows n) ≡ true)) → IfSome r (λ n. (q : ℕ) → is_above after q ≡ true → q < n → finmap.get rows q ≡ None) → IfNone r ((q : ℕ) → is_above after q ≡ true → finmap.get rows q ≡ None) → MatchOption r (numbers_above after rows ≡ []) (λ n. numbers_above after rows ≡ n ∷ numbers_above (Some n) rows)
-first_number after rows None some least none = numbers_above-none after rows none
-first_number after rows (Some n) some least none = numbers_above-first after n rows some.0 some.1 least

@@ -9,13 +9,8 @@ use Rattle.tuple_store.specs.declared.held.Held.{Held}
 use Rattle.tuple_store.specs.declared.held.Mark.{Mark}
 use Rattle.tuple_store.specs.declared.held.Mark.TheVariants.{Kept, Added, Killed}
 use Rattle.tuple_store.specs.Live.{slot_at}
+use Rattle.tuple_store.proofs.MapLaws.{clears, puts, same_rows}
 use Rattle.tuple_store.specs.Rows.{is_now, is_base, is_settled, mark_in, numbered, remarked, rows_of, shown}
-
-same_number : (q n : ℕ) → eq_by_cmp nat_cmp q n ≡ true → q ≡ n
-same_number q n e = grind (arith, common_steps, rules)
-
-other_number : (q n : ℕ) → q ≢ n → eq_by_cmp nat_cmp q n ≡ false
-other_number q n h = grind (arith, common_steps, rules)
 
 get_below : {T : Type 0} (n : ℕ) (slots : List (Option T)) (q : ℕ) → q < n → finmap.get (numbered n slots) q ≡ None
 get_below n [] q h = get-empty nat_cmp q
@@ -45,37 +40,25 @@ get-rows_of {T} passes slots q =
     subst (λ (k : ℕ). finmap.get (numbered 0 (map (shown passes) slots)) k ≡ get_or (map (shown passes) slots) q None) e (get_numbered 0 (map (shown passes) slots) q)
     ∙ get_or-shown passes slots q
 
-module _ {T : Type 0} (passes : Mark → Bool) (old new : List (Option (Held T))) (n : ℕ) where
+module _ {T : Type 0} (passes : Mark → Bool) (old new : List (Option (Held T))) (n : ℕ) (others : (q : ℕ) → q ≢ n → slot_at new q ≡ slot_at old q) where
+  other_rows : (q : ℕ) → q ≢ n → finmap.get (rows_of passes new) q ≡ finmap.get (rows_of passes old) q
+  other_rows q apart = get-rows_of passes new q ∙ ap (shown passes) (others q apart) ∙ sym (get-rows_of passes old q)
+
   -- a slot that shows a row now
-  pub rows_of-put : (row : T) → shown passes (slot_at new n) ≡ Some row → ((q : ℕ) → q ≢ n → slot_at new q ≡ slot_at old q) → rows_of passes new ≡ finmap.insert (rows_of passes old) n row
-  rows_of-put row here others = same_map nat_cmp_total nat_cmp-IsAntisymmetric _ _ (λ q.
-      get-rows_of passes new q
-      ∙ ⊎_elim (λ at. rw (at) (here ∙ ap (λ (b : Bool). cond b (Some row) (finmap.get (rows_of passes old) n)) (sym (tied n))))
-      (λ apart. ap (shown passes) (others q apart) ∙ sym (get-rows_of passes old q) ∙ ap (λ (b : Bool). cond b (Some row) (finmap.get (rows_of passes old) q)) (sym (other_number q n apart)))
-      (cases_eq q n)
-      ∙ sym (get-insert nat_cmp_total (rows_of passes old) n row q))
-    where
-      tied : (k : ℕ) → eq_by_cmp nat_cmp k k ≡ true
-      tied k = grind (arith, common_steps, rules)
+  pub rows_of-put : (row : T) → shown passes (slot_at new n) ≡ Some row → rows_of passes new ≡ finmap.insert (rows_of passes old) n row
+  rows_of-put row here = puts (rows_of passes old) (rows_of passes new) n row (get-rows_of passes new n ∙ here) other_rows
 
   -- a slot that shows no row now
-  pub rows_of-cleared : shown passes (slot_at new n) ≡ None → ((q : ℕ) → q ≢ n → slot_at new q ≡ slot_at old q) → rows_of passes new ≡ finmap.remove (rows_of passes old) n
-  rows_of-cleared here others = same_map nat_cmp_total nat_cmp-IsAntisymmetric _ _ (λ q.
-      get-rows_of passes new q
-      ∙ ⊎_elim (λ at. rw (at) (here ∙ ap (λ (b : Bool). cond b None (finmap.get (rows_of passes old) n)) (sym (tied n))))
-      (λ apart. ap (shown passes) (others q apart) ∙ sym (get-rows_of passes old q) ∙ ap (λ (b : Bool). cond b None (finmap.get (rows_of passes old) q)) (sym (other_number q n apart)))
-      (cases_eq q n)
-      ∙ sym (get-remove nat_cmp_total (rows_of passes old) n q))
-    where
-      tied : (k : ℕ) → eq_by_cmp nat_cmp k k ≡ true
-      tied k = grind (arith, common_steps, rules)
+  pub rows_of-cleared : shown passes (slot_at new n) ≡ None → rows_of passes new ≡ finmap.remove (rows_of passes old) n
+  rows_of-cleared here = clears (rows_of passes old) (rows_of passes new) n (get-rows_of passes new n ∙ here) other_rows
 
   -- a slot that shows what it showed
-  pub rows_of-same : shown passes (slot_at new n) ≡ shown passes (slot_at old n) → ((q : ℕ) → q ≢ n → slot_at new q ≡ slot_at old q) → rows_of passes new ≡ rows_of passes old
-  rows_of-same here others = same_map nat_cmp_total nat_cmp-IsAntisymmetric _ _ (λ q.
-      get-rows_of passes new q
-      ∙ ⊎_elim (λ at. rw (at) here) (λ apart. ap (shown passes) (others q apart)) (cases_eq q n)
-      ∙ sym (get-rows_of passes old q))
+  pub rows_of-same : shown passes (slot_at new n) ≡ shown passes (slot_at old n) → rows_of passes new ≡ rows_of passes old
+  rows_of-same here = same_rows (rows_of passes new) (rows_of passes old) (λ q.
+      ⊎_elim
+      (λ (at : q ≡ n). rw at (get-rows_of passes new n ∙ here ∙ sym (get-rows_of passes old n)))
+      (other_rows q)
+      (cases_eq q n))
 
 some_is : {A : Type 0} {a b : A} → Some a ≡ Some b → a ≡ b
 some_is e = cc
@@ -96,7 +79,7 @@ shown_settled (Some held) e = by_mark held.mark refl where
 
 -- where all slots are settled, both contents are one
 pub rows_of-settled : {T : Type 0} (slots : List (Option (Held T))) → ((q : ℕ) → is_settled (slot_at slots q) ≡ true) → rows_of is_now slots ≡ rows_of is_base slots
-rows_of-settled slots all = same_map nat_cmp_total nat_cmp-IsAntisymmetric _ _ (λ q.
+rows_of-settled slots all = same_rows _ _ (λ q.
     get-rows_of is_now slots q ∙ shown_settled (slot_at slots q) (all q) ∙ sym (get-rows_of is_base slots q))
 
 -- what a slot with this mark shows

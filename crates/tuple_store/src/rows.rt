@@ -1,7 +1,7 @@
 ghost use Rattle.std.specs.Prelude.{◌≡◌, ℕ, ◌<◌, ◌≤◌, true, [], None, Some, IfSome, IfNone, IfOk, OnErr, is_some, option_copied};
 ghost use Rattle.slab.specs.Slab.{get, Updates};
 ghost use Rattle.tuple_store.specs.Numbers.{is_above};
-ghost use Rattle.tuple_store.specs.Rows.{is_now, mark_in, remarked, shown};
+ghost use Rattle.tuple_store.specs.Rows.{is_now, live_at, mark_in, remarked};
 
 use crate::bits::{clear_bit, first_bit, set_bit, widen};
 use crate::held::{Held, Mark};
@@ -105,9 +105,10 @@ impl<T: Drop> Rows<T> {
 
     /// The least number in the contents above `after`, or the least one of all.
     pub fn first_above(&self, after: Option<u64>) -> Option<u64>
-        ensures some { IfSome result (λ n. (is_above after n ≡ true) × (is_some (shown is_now (get self.now n)) ≡ true)) }
-        ensures least { IfSome result (λ n. (q : ℕ) → is_above after q ≡ true → q < n → shown is_now (get self.now q) ≡ None) }
-        ensures none { IfNone result ((q : ℕ) → is_above after q ≡ true → shown is_now (get self.now q) ≡ None) }
+        ensures above { IfSome result (λ n. is_above after n ≡ true) }
+        ensures live { IfSome result (λ n. is_some (live_at self.now n) ≡ true) }
+        ensures least { IfSome result (λ n. (q : ℕ) → is_above after q ≡ true → q < n → live_at self.now q ≡ None) }
+        ensures none { IfNone result ((q : ℕ) → is_above after q ≡ true → live_at self.now q ≡ None) }
     {
         let live = self.live.as_slice();
         let from = match after {

@@ -25,11 +25,18 @@ const CLASSES: &[ClassSketch] = &[
     ("room", &[("a", None)]),
 ];
 
-/// Adds a variable with values of this class, or a field.
+/// Adds a variable with values of this class, or a field. The variable `spare` may stay null.
 fn add_member(class: &mut ClassDef, name: Text, values: Option<u8>) -> Result<(), Memory> {
     let kind = Kind::Number;
     match values {
-        Some(values) => class.vars.push(VarDef { name, values }),
+        Some(values) => {
+            let nullable = name.as_slice() == b"spare".as_slice();
+            class.vars.push(VarDef {
+                name,
+                values,
+                nullable,
+            })
+        }
         None => class.fields.push(FieldDef { name, kind }),
     }
 }
@@ -47,12 +54,16 @@ fn class_of(alloc: Global, sketch: &ClassSketch) -> Result<ClassDef, Memory> {
     Ok(class)
 }
 
-fn lessons(alloc: Global) -> Result<Schema, Fail> {
+fn schema_of(alloc: Global, sketches: &[ClassSketch]) -> Result<Schema, Fail> {
     let mut classes = List::new(alloc);
-    for sketch in CLASSES {
+    for sketch in sketches {
         classes.push(class_of(alloc, sketch)?)?;
     }
     Ok(Schema::build(classes)?)
+}
+
+fn lessons(alloc: Global) -> Result<Schema, Fail> {
+    schema_of(alloc, CLASSES)
 }
 
 fn raw_of(alloc: Global, sketch: &Sketch) -> Result<Raw, Memory> {
@@ -60,6 +71,7 @@ fn raw_of(alloc: Global, sketch: &Sketch) -> Result<Raw, Memory> {
         id: sketch.0,
         fields: List::from_slice(alloc, sketch.1)?,
         values: List::from_slice(alloc, sketch.2)?,
+        pinned: false,
     })
 }
 
@@ -179,15 +191,18 @@ fn holds_values(rec: &Rec, wanted: &[Held]) -> bool {
 /// A resolved record: its class, id and fields, and the values of its variables.
 type Whole = (u8, u32, &'static [i64], &'static [Held]);
 
+/// Whether the record is this fact.
+fn is_whole(rec: &Rec, wanted: &Whole) -> bool {
+    rec.class == wanted.0
+        && rec.id == wanted.1
+        && rec.fields.as_slice() == wanted.2
+        && holds_values(rec, wanted.3)
+}
+
 /// Whether this fact is live and resolves to that.
 fn resolves(plan: &Plan, wanted: &Whole) -> Result<bool, Memory> {
     Ok(match plan.resolve(wanted.0, wanted.1)? {
-        Some(rec) => {
-            rec.class == wanted.0
-                && rec.id == wanted.1
-                && rec.fields.as_slice() == wanted.2
-                && holds_values(&rec, wanted.3)
-        }
+        Some(rec) => is_whole(&rec, wanted),
         None => false,
     })
 }
@@ -343,13 +358,129 @@ fn plan_of_slots(alloc: Global, schema: &Schema, count: u32) -> Result<Plan, Pla
 }
 
 #[test]
-fn takes_twenty_thousand_facts(rt: HostRuntime) -> Result<(), Fail> {
+fn takes_a_hundred_thousand_facts(rt: HostRuntime) -> Result<(), Fail> {
     let schema = lessons(rt.alloc())?;
-    let more = plan_of_slots(rt.alloc(), &schema, 20_001).err();
+    let more = plan_of_slots(rt.alloc(), &schema, FACT_LIMIT + 1).err();
     assert!(rt; more == Some(PlanFault::TooManyFacts));
-    let plan = plan_of_slots(rt.alloc(), &schema, 20_000)?;
-    assert!(rt; plan.made() == 20_000);
-    assert!(rt; holds(&plan, SLOT, &(20_000, &[0, 0], &[])));
+    let plan = plan_of_slots(rt.alloc(), &schema, FACT_LIMIT)?;
+    assert!(rt; plan.made() == FACT_LIMIT);
+    assert!(rt; holds(&plan, SLOT, &(FACT_LIMIT, &[0, 0], &[])));
+    Ok(())
+}
+
+/// Nurses, and shifts which need a lead and may have a spare.
+const WARD: &[ClassSketch] = &[
+    ("nurse", &[]),
+    ("shift", &[("lead", Some(0)), ("spare", Some(0))]),
+];
+
+const SHIFT: u8 = 1;
+
+/// A nurse, and three shifts, of which two miss their lead.
+const SHIFTS: &[&[Sketch]] = &[
+    &[(1, &[], &[])],
+    &[
+        (1, &[], &[None, None]),
+        (2, &[], &[Some(1), None]),
+        (3, &[], &[None, Some(1)]),
+    ],
+];
+
+/// The shifts, of which the first is pinned.
+fn ward(alloc: Global) -> Result<Plan, Fail> {
+    let schema = schema_of(alloc, WARD)?;
+    let mut lists = lists_of(alloc, SHIFTS)?;
+    if let Some(shifts) = lists.as_mut_slice().get_mut(1) {
+        if let Some(first) = shifts.as_mut_slice().get_mut(0) {
+            first.pinned = true;
+        }
+    }
+    Ok(Plan::of(alloc, &schema, lists)?)
+}
+
+/// Classes and ids, and whether such a fact is pinned.
+const PINNED: &[(u8, u32, bool)] = &[
+    (SHIFT, 1, true),
+    (SHIFT, 2, false),
+    (SHIFT, 4, false),
+    (0, 1, false),
+    (2, 1, false),
+];
+
+/// The first of those that isn't so.
+fn wrong_pin(plan: &Plan) -> Option<(u8, u32)> {
+    for (class, id, pinned) in PINNED {
+        if plan.pinned(*class, *id) != *pinned {
+            return Some((*class, *id));
+        }
+    }
+    None
+}
+
+#[test]
+fn counts_what_may_not_stay_null(rt: HostRuntime) -> Result<(), Fail> {
+    let mut plan = ward(rt.alloc())?;
+    assert!(rt; plan.nullables(SHIFT) == [false, true].as_slice());
+    assert!(rt; wrong_pin(&plan) == None);
+    assert!(rt; plan.unplaced() == 2);
+    assert!(rt; try_set(&mut plan, SHIFT, 3, 1, None) && plan.unplaced() == 2);
+    assert!(rt; try_set(&mut plan, SHIFT, 1, 0, Some(1)) && plan.unplaced() == 1);
+    assert!(rt; try_add(&mut plan, rt.alloc(), SHIFT, &(0, &[], &[None, None])) == Ok(4));
+    assert!(rt; plan.unplaced() == 2 && wrong_pin(&plan) == None);
+    assert!(rt; plan.remove(0, 1) && plan.unplaced() == 4);
+    Ok(())
+}
+
+#[test]
+fn gives_the_records_of_a_class(rt: HostRuntime) -> Result<(), Fail> {
+    let plan = timetable(rt.alloc())?;
+    let lessons = plan.records(LESSON)?;
+    let ids: Vec<u32> = lessons
+        .as_slice()
+        .iter()
+        .map(|lesson| lesson.id)
+        .collect(rt.alloc())?;
+    assert!(rt; ids.as_slice() == [1, 2].as_slice());
+    assert!(rt; plan.records(3)?.is_empty());
+    Ok(())
+}
+
+/// Facts, and the whole of each that is there.
+const LENT: &[(u8, u32, Option<Whole>)] = &[
+    (
+        LESSON,
+        2,
+        Some((LESSON, 2, &[30], &[Some((9, &[1, 480])), None])),
+    ),
+    (ROOM, 3, Some((ROOM, 3, &[40], &[]))),
+    (LESSON, 1, Some((LESSON, 1, &[25], &[None, None]))),
+    (LESSON, 3, None),
+];
+
+/// Whether a lent record is made that fact.
+fn resolves_into(plan: &Plan, rec: &mut Rec, class: u8, id: u32, wanted: &Option<Whole>) -> bool {
+    match (plan.resolve_into(class, id, rec), wanted) {
+        (Ok(true), Some(wanted)) => is_whole(rec, wanted),
+        (Ok(false), None) => true,
+        _ => false,
+    }
+}
+
+#[test]
+fn resolves_into_a_lent_record(rt: HostRuntime) -> Result<(), Fail> {
+    let plan = timetable(rt.alloc())?;
+    let mut rec = Rec {
+        class: SLOT,
+        id: 7,
+        fields: List::new(rt.alloc()),
+        planned: List::new(rt.alloc()),
+    };
+    for (class, id, wanted) in LENT {
+        assert!(rt;
+            resolves_into(&plan, &mut rec, *class, *id, wanted),
+            "{class} {id}"
+        );
+    }
     Ok(())
 }
 
@@ -507,9 +638,9 @@ fn adds_facts_under_new_ids(rt: HostRuntime) -> Result<(), Fail> {
 }
 
 #[test]
-fn adds_no_more_than_twenty_thousand(rt: HostRuntime) -> Result<(), Fail> {
+fn adds_no_more_than_a_hundred_thousand(rt: HostRuntime) -> Result<(), Fail> {
     let schema = lessons(rt.alloc())?;
-    let mut plan = plan_of_slots(rt.alloc(), &schema, 19_999)?;
+    let mut plan = plan_of_slots(rt.alloc(), &schema, FACT_LIMIT - 1)?;
     let room: &Sketch = &(0, &[7], &[]);
     assert!(rt; try_add(&mut plan, rt.alloc(), ROOM, room) == Ok(1));
     assert!(rt; plan.remove(SLOT, 5));

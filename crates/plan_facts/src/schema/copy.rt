@@ -53,6 +53,7 @@ fn copy_of_vars(alloc: Global, vars: &[VarDef]) -> Result<List<VarDef>, Memory>
         copy.push(VarDef {
             name: var.name.copy(alloc)?,
             values: var.values,
+            nullable: var.nullable,
         })?;
     }
     Ok(copy)

@@ -12,7 +12,14 @@ type Sketch = (&'static str, &'static [(&'static str, Option<u8>)]);
 fn add_member(class: &mut ClassDef, name: Text, values: Option<u8>) -> Result<(), Memory> {
     let kind = Kind::Number;
     match values {
-        Some(values) => class.vars.push(VarDef { name, values }),
+        Some(values) => {
+            let nullable = false;
+            class.vars.push(VarDef {
+                name,
+                values,
+                nullable,
+            })
+        }
         None => class.fields.push(FieldDef { name, kind }),
     }
 }
@@ -136,6 +143,10 @@ const FAULTS: &[(&[Sketch], SchemaFault)] = &[
     ),
     (
         &[SLOT, ("room", &[("id", None)])],
+        SchemaFault::BadName { class: 1 },
+    ),
+    (
+        &[SLOT, ("room", &[("pinned", None)])],
         SchemaFault::BadName { class: 1 },
     ),
     (

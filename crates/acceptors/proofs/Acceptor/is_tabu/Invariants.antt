@@ -7,4 +7,5 @@ use Rattle.acceptors.proofs.Acceptor.is_tabu.Given as goal
 
 -- none of the entities so far was touched by one of the last steps
 abbrev pub invariant-loop-touch : goal.invariant-loop-touch
-invariant-loop-touch l = (h : History) → StandsFor l.self h → list_any (is_recent l.self.size h) (take l.touch-index l.touched) ≡ false
+invariant-loop-touch l =
+    (h : History) → StandsFor l.self h → list_any (is_recent l.self.size h) (take l.touch-index l.touched) ≡ false

@@ -1,14 +1,14 @@
-use Rattle.std.proofs.Common.{arith}
+use Rattle.std.proofs.Common.{arith, inr}
 use Rattle.std.proofs.lemmas.Result.{err_from_is_err_and}
 use Rattle.plan_facts.proofs.PlanMade.{plan_of_sound}
 use Rattle.plan_facts.proofs.PlanChecked.{wrong_lists, too_many, records_refused, values_refused, no_fault}
 use Rattle.plan_facts.proofs.listed.check_lists.Goals as goal
 
 pub returns-then-lists-classes-clause-err : goal.returns-then-lists-classes-clause-err
-returns-then-lists-classes-clause-err c = wrong_lists c.args.schema.now c.args.lists.now (λ same. c.if-lists-classes.true (omega arith))
+returns-then-lists-classes-clause-err c = inr (wrong_lists c.args.schema.now c.args.lists.now (λ same. c.if-lists-classes.true (omega arith)))
 
 pub returns-in_default-clause-err : goal.returns-in_default-clause-err
-returns-in_default-clause-err c = too_many c.args.schema.now c.args.lists.now (omega arith) c.in_default.ensures
+returns-in_default-clause-err c = inr (too_many c.args.schema.now c.args.lists.now (omega arith) c.in_default.ensures)
 
 pub returns-in_err-ids-clause-err : goal.returns-in_err-ids-clause-err
 returns-in_err-ids-clause-err c =

@@ -13,4 +13,4 @@ loop-var-preserved c =
 pub returns : goal.returns
 returns c =
     let all = zip_over_all (λ (pair : ℕ × Option ℕ). let_go c.args.class c.args.id pair.0 pair.1) c.args.ranges.now c.args.raw.now.values c.loop-var.values c.loop-var.var c.loop-var-test.false c.requires (rw c.as_mut_slice-values.ensures.value at c.loop-var.invariant) in
-    ap (λ (values : List (Option ℕ)). let raw : Raw = record { id = c.args.raw.now.id; fields = c.args.raw.now.fields; values = values } in raw) all
+    ap (λ (values : List (Option ℕ)). let raw : Raw = record { id = c.args.raw.now.id; fields = c.args.raw.now.fields; values = values; pinned = c.args.raw.now.pinned } in raw) all

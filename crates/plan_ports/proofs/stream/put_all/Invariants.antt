@@ -1,12 +1,12 @@
-use Rattle.std.proofs.Common.{◌≡◌, ◌≤◌, ◌-◌, ◌++◌, length, take, true}
+use Rattle.std.proofs.Common.{◌≤◌, ◌-◌, length, take}
+use Rattle.plan_ports.specs.Outside.{LaterSink, Wrote}
 use Rattle.plan_ports.proofs.stream.put_all.Given as goal
 
 abbrev pub invariant-put : goal.invariant-put
 invariant-put g l = record {
   within : l.done ≤ length l.text;
-  written : g.K.Sink.tells l.fn.sink ≡ true → g.K.Sink.written l.sink ≡ g.K.Sink.written l.fn.sink ++ take l.done l.text;
-  later : g.K.Sink.faults l.fn.sink ≤ g.K.Sink.faults l.sink;
-  same_tells : g.K.Sink.tells l.sink ≡ g.K.Sink.tells l.fn.sink;
+  wrote : Wrote (take l.done l.text) (g.K.Sink.state l.fn.sink) (g.K.Sink.state l.sink);
+  later : LaterSink (g.K.Sink.state l.fn.sink) (g.K.Sink.state l.sink);
 }
 
 abbrev pub decreases-put : goal.decreases-put

@@ -1,114 +1,44 @@
-use Rattle.std.proofs.Common.{◌≡◌, ◌∙◌, ◌+◌, ◌++◌, ◌<◌, ◌≤◌, ℕ, List, [], ◌∷◌, map, drop, get_or, length, refl, ap, sym, subst, arith}
-use Rattle.std.proofs.lemmas.List.{length-map, map-append}
+use Rattle.std.proofs.Common.{◌∙◌, ◌+◌, ◌++◌, ◌∷◌, [], ◌≤◌, List, map, length, ap, sym}
+use Rattle.std.proofs.lemmas.List.{map-append}
 use Rattle.plan_facts.specs.Plan.{records_of}
-use Rattle.plan_scores.specs.declared.score.Score.{Score}
-use Rattle.plan_scores.specs.Sum.{add_scores, FitsScore}
-use Rattle.plan_rules.specs.declared.rule.RuleDef.{RuleDef}
 use Rattle.plan_rules.specs.declared.row.Match.{Match}
-use Rattle.plan_rules.specs.Rows.{Facts}
-use Rattle.plan_rules.specs.Range.{has_too_many_rows, sizes_of}
-use Rattle.plan_rules.specs.Sound.{IsSound}
-use Rattle.plan_rules.specs.Totals.{all_matches, matches_of, impact_sum, score_of}
-use Rattle.plan_rules.proofs.Accepted.{sound_rules}
-use Rattle.plan_rules.proofs.Lengths.{few_rows_in_range}
-use Rattle.plan_rows.specs.Facts.{sizes_in}
-use Rattle.plan_recalc.specs.Size.{impact_sizes}
-use Rattle.plan_recalc.proofs.Sizes.{fits_within}
-use Rattle.plan_recalc.proofs.OneMore.{LeavesRoom, bound_at, matches_more, score_more, score_end, sizes_within_bound, small_impacts, room_after}
+use Rattle.plan_rules.specs.Range.{sizes_of}
+use Rattle.plan_rules.specs.Totals.{impact_sum, score_of}
+use Rattle.plan_recalc.specs.RulesFrom.{matches_from}
+use Rattle.plan_recalc.specs.Totals.{whole_matches}
+use Rattle.plan_recalc.proofs.OneMore.{matches_more, next_in, room_in, score_added, score_end}
 use Rattle.plan_recalc.proofs.calculator.recalc.Goals as goal
-
-pub rule_matches-requires-clause-sound : goal.rule_matches-requires-clause-sound
-rule_matches-requires-clause-sound g c κs within =
-    let rules = c.args.rules.now in
-    let k = c.loop-place.place in
-    let rule = c.index-defs-place.result in
-    let there : k < length rules.defs = rw (← c.as_slice-defs.ensures) (c.loop-place-test.true) in
-    let read : rule ≡ get_or rules.defs k rule = rw (← c.as_slice-defs.ensures) (c.index-defs-place.is) in
-    let P : RuleDef → Type 0 = IsSound (length rules.schema) rules.numbers in
-    subst P (sym read) (sound_rules (length rules.schema) rules.numbers rules.defs rules.accepted k rule there)
-
-pub rule_matches-requires-clause-few : goal.rule_matches-requires-clause-few
-rule_matches-requires-clause-few g c κs within =
-    let rules = c.args.rules.now in
-    let k = c.loop-place.place in
-    let rule = c.index-defs-place.result in
-    let there : k < length rules.defs = rw (← c.as_slice-defs.ensures) (c.loop-place-test.true) in
-    let read : rule ≡ get_or rules.defs k rule = rw (← c.as_slice-defs.ensures) (c.index-defs-place.is) in
-    (λ i. has_too_many_rows (c.in_ok-facts.ensures.sizes i) (read i)) ∙ few_rows_in_range (sizes_of c.args.plan.now) rules.defs c.args.weights.now rules.caps c.requires.range k rule there
-
-pub impact_sum-impact-requires : goal.impact_sum-impact-requires
-impact_sum-impact-requires g c =
-    let rules = c.args.rules.now in
-    let weights = c.args.weights.now in
-    let sizes = sizes_of c.args.plan.now in
-    let k = c.loop-place.place in
-    let rule = c.index-defs-place.result in
-    let ms = c.in_ok-of_rule.of_rule in
-    let there : k < length rules.defs = rw (← c.as_slice-defs.ensures) (c.loop-place-test.true) in
-    let there' : k < length weights = rw (c.requires.weights) there in
-    let count : length rules.caps ≡ length rules.defs = ap (λ (caps : List ℕ). length caps) rules.caps_are ∙ length-map rules.defs _ in
-    let there'' : k < length rules.caps = rw count there in
-    let read : rule ≡ get_or rules.defs k rule = rw (← c.as_slice-defs.ensures) (c.index-defs-place.is) in
-    let few : impact_sizes ms ≤ bound_at sizes rules.defs weights rules.caps k rule =
-    sizes_within_bound _ sizes (sizes_in c.in_ok-facts.facts) rules.defs weights rules.caps k (get_or weights k 0) rule (impact_sizes ms) there read refl rules.caps_are c.in_ok-facts.ensures.sizes c.in_ok-of_rule.ensures.size in
-    rw (c.as_slice.ensures) (small_impacts sizes rules.defs weights rules.caps k rule c.loop-place.score (impact_sizes ms) there there' there'' c.loop-place.invariant.room few)
-
-pub add-score-requires : goal.add-score-requires
-add-score-requires g c =
-    let rules = c.args.rules.now in
-    let weights = c.args.weights.now in
-    let sizes = sizes_of c.args.plan.now in
-    let k = c.loop-place.place in
-    let rule = c.index-defs-place.result in
-    let ms = c.in_ok-of_rule.of_rule in
-    let there : k < length rules.defs = rw (← c.as_slice-defs.ensures) (c.loop-place-test.true) in
-    let there' : k < length weights = rw (c.requires.weights) there in
-    let count : length rules.caps ≡ length rules.defs = ap (λ (caps : List ℕ). length caps) rules.caps_are ∙ length-map rules.defs _ in
-    let there'' : k < length rules.caps = rw count there in
-    let read : rule ≡ get_or rules.defs k rule = rw (← c.as_slice-defs.ensures) (c.index-defs-place.is) in
-    let few : impact_sizes ms ≤ bound_at sizes rules.defs weights rules.caps k rule =
-    sizes_within_bound _ sizes (sizes_in c.in_ok-facts.facts) rules.defs weights rules.caps k (get_or weights k 0) rule (impact_sizes ms) there read refl rules.caps_are c.in_ok-facts.ensures.sizes c.in_ok-of_rule.ensures.size in
-    let sum : c.impact_sum-impact.result ≡ impact_sum ms = c.impact_sum-impact.ensures ∙ ap impact_sum c.as_slice.ensures in
-    let room = room_after sizes rules.defs weights rules.caps k rule c.loop-place.score ms there there' there'' c.loop-place.invariant.room few in
-    let P : Score → Type 0 = FitsScore in
-    subst P (λ i. add_scores c.loop-place.score (sym sum i)) (fits_within room.most (add_scores c.loop-place.score (impact_sum ms)) room.within (omega (arith, room.few)))
 
 pub loop-place-preserved : goal.loop-place-preserved
 loop-place-preserved g c =
+    let m = g.B.Book.meaning in
     let rules = c.args.rules.now in
     let weights = c.args.weights.now in
-    let sizes = sizes_of c.args.plan.now in
+    let plan = c.args.plan.now in
+    let f = records_of plan in
     let k = c.loop-place.place in
-    let rule = c.index-defs-place.result in
-    let ms = c.in_ok-of_rule.of_rule in
-    let there : k < length rules.defs = rw (← c.as_slice-defs.ensures) (c.loop-place-test.true) in
-    let there' : k < length weights = rw (c.requires.weights) there in
-    let count : length rules.caps ≡ length rules.defs = ap (λ (caps : List ℕ). length caps) rules.caps_are ∙ length-map rules.defs _ in
-    let there'' : k < length rules.caps = rw count there in
-    let read : rule ≡ get_or rules.defs k rule = rw (← c.as_slice-defs.ensures) (c.index-defs-place.is) in
-    let few : impact_sizes ms ≤ bound_at sizes rules.defs weights rules.caps k rule =
-    sizes_within_bound _ sizes (sizes_in c.in_ok-facts.facts) rules.defs weights rules.caps k (get_or weights k 0) rule (impact_sizes ms) there read refl rules.caps_are c.in_ok-facts.ensures.sizes c.in_ok-of_rule.ensures.size in
-    let m = g.B.Book.meaning in
-    let facts = records_of c.args.plan.now in
-    let weight = get_or weights k 0 in
-    let is : ms ≡ matches_of m facts rule weight = c.in_ok-of_rule.ensures.matches ∙ ap (λ (f : Facts). matches_of m f rule weight) c.in_ok-facts.ensures.records in
-    let added : c.add-score.result ≡ add_scores c.loop-place.score (impact_sum ms) = c.add-score.ensures ∙ ap (add_scores c.loop-place.score) (c.impact_sum-impact.ensures ∙ ap impact_sum c.as_slice.ensures) in
-    let room = room_after sizes rules.defs weights rules.caps k rule c.loop-place.score ms there there' there'' c.loop-place.invariant.room few in
-    let R : Score → Type 0 = LeavesRoom sizes rules.defs weights rules.caps (k + 1) in
+    let lists = c.in_ok-facts.facts in
+    let one = c.in_ok-one.one in
+    let ms = one.matches in
+    let invariant = c.loop-place.invariant in
+    let later = matches_from m f rules.defs weights (k + 1) in
+    let next = next_in m lists f rules.defs weights k ms c.in_ok-facts.ensures.records c.in_ok-one.ensures.matches in
     record {
-      matches = matches_more m facts rules.defs weights k weight rule ms (all_matches m facts rules.defs weights) c.loop-place.matches there there' read refl is c.loop-place.invariant.matches
-          ∙ ap (λ (so_far : List (List Match)). so_far ++ all_matches m facts (drop (k + 1) rules.defs) (drop (k + 1) weights)) (sym c.in_ok-push.ensures.ok);
-      score = score_more m facts rules.defs weights k weight rule ms (score_of m facts rules.defs weights) c.loop-place.score there there' read refl is c.loop-place.invariant.score
-          ∙ ap (λ (s : Score). add_scores s (score_of m facts (drop (k + 1) rules.defs) (drop (k + 1) weights))) (sym added);
-      room = subst R (sym added) room;
-      impacts = c.in_ok-push-2.ensures.ok ∙ ap (λ (so_far : List Score). so_far ++ c.impact_sum-impact.result ∷ []) c.loop-place.invariant.impacts
-          ∙ ap (λ (s : Score). map impact_sum c.loop-place.matches ++ s ∷ []) (c.impact_sum-impact.ensures ∙ ap impact_sum c.as_slice.ensures)
+      matches = matches_more (whole_matches m rules.defs weights plan) c.loop-place.matches (matches_from m f rules.defs weights k) later ms invariant.matches next
+          ∙ ap (λ (so_far : List (List Match)). so_far ++ later) (sym c.in_ok-push.ensures.ok);
+      score = score_added m f rules.defs weights k ms (score_of m f rules.defs weights) c.loop-place.score c.add_rule.new.score one.impact next invariant.score c.in_ok-one.ensures.score one.summed;
+      room = room_in rules.defs rules.caps weights (sizes_of plan) lists (k + 1) c.add_rule.new.score c.in_ok-facts.ensures.sizes c.in_ok-one.ensures.room;
+      impacts = c.in_ok-push-2.ensures.ok ∙ (λ i. invariant.impacts i ++ one.summed i ∷ [])
           ∙ sym (map-append impact_sum c.loop-place.matches (ms ∷ [])) ∙ ap (map impact_sum) (sym c.in_ok-push.ensures.ok);
     }
 
 pub returns-clause-score : goal.returns-clause-score
 returns-clause-score g c =
+    let m = g.B.Book.meaning in
     let rules = c.args.rules.now in
-    let end : length rules.defs ≤ c.loop-place.place = rw (← c.as_slice-defs.ensures) (c.loop-place-test.false) in
-    let sum = score_end g.B.Book.meaning (records_of c.args.plan.now) rules.defs c.args.weights.now c.loop-place.place (score_of g.B.Book.meaning (records_of c.args.plan.now) rules.defs c.args.weights.now) c.loop-place.score end c.loop-place.invariant.score in
-    λ i. record { unplaced = c.unplaced.ensures.unplaced i; score = sum i }
+    let weights = c.args.weights.now in
+    let f = records_of c.args.plan.now in
+    let k = c.loop-place.place in
+    let end : length rules.defs ≤ k = rw (← c.len-place-end.ensures) (c.loop-place-test.false) in
+    let sum = score_end m f rules.defs weights k (score_of m f rules.defs weights) c.loop-place.score end c.loop-place.invariant.score in
+    λ i. record { unplaced = c.unplaced-unplaced.ensures.unplaced i; score = sum i }

@@ -3,8 +3,8 @@ use Rattle.plan_rules.specs.declared.row.Part.{Part}
 use Rattle.plan_rules.specs.Range.{rule_bound}
 use Rattle.plan_rules.proofs.Lengths.{length-rule_rows-le}
 use Rattle.plan_rules.specs.Rows.{rule_rows}
-use Rattle.plan_rows.specs.Facts.{facts_in, sizes_in}
-use Rattle.plan_rows.proofs.Streamed.{sizes_within}
+use Rattle.plan_recalc.specs.Facts.{facts_in, sizes_in}
+use Rattle.plan_recalc.proofs.Streamed.{sizes_within}
 use Rattle.plan_recalc.proofs.Sizes.{sizes_bounded}
 use Rattle.plan_recalc.proofs.matches.rule_matches.Goals as goal
 

@@ -1,9 +1,6 @@
-use Rattle.std.proofs.Common.{take, rules}
-use Rattle.plan_reports.specs.Lines.{row_text}
-use Rattle.plan_reports.proofs.Fronts.{front_of_longer}
+use Rattle.plan_reports.proofs.RowText.{part_written}
 use Rattle.plan_reports.proofs.parts.put_row.Goals as goal
 
-pub returns-in_err-put_part-clause-err : goal.returns-in_err-put_part-clause-err
-returns-in_err-put_part-clause-err c =
-    let front = front_of_longer c.args.out.now.items (row_text c.args.schema.now (take c.loop-part.part-index c.args.row.now)) c.put_part.new.out.items in
-    search (rules, front)
+pub loop-n-preserved : goal.loop-n-preserved
+loop-n-preserved c =
+    part_written c.args.schema.now c.args.row.now c.loop-n.n c.in-Some.part.now _ _ _ _ c.in-Some.ensures c.loop-n.invariant c.in_ok-put.ensures c.in_ok-put_part.ensures

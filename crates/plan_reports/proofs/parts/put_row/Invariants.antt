@@ -3,5 +3,5 @@ use Rattle.plan_reports.specs.Lines.{row_text}
 use Rattle.plan_reports.proofs.parts.put_row.Given as goal
 
 -- the parts so far are written
-abbrev pub invariant-loop-part : goal.invariant-loop-part
-invariant-loop-part l = l.out.items ≡ l.initial.out.items ++ row_text l.schema (take l.part-index l.row)
+abbrev pub invariant-loop-n : goal.invariant-loop-n
+invariant-loop-n l = l.out.items ≡ l.initial.out.items ++ row_text l.schema (take l.n l.row)

@@ -3,9 +3,9 @@ use Rattle.plan_rules.proofs.Accepted.{few_rules}
 use Rattle.plan_texts.proofs.Whole.{few_matches, score_written}
 use Rattle.plan_texts.proofs.text.score_text.Goals as goal
 
-pub sums-requires-clause-few : goal.sums-requires-clause-few
-sums-requires-clause-few g c =
-    few_matches g.B.Book.meaning (records_of c.args.problem.plan) c.args.domain.now.rules.defs c.as_slice.result.now _ 32 c.in_ok-totals.ensures.matches (few_rules _ _ _ c.args.domain.now.rules.accepted)
+pub sums-requires : goal.sums-requires
+sums-requires g c =
+    few_matches g.B.Book.meaning (records_of c.args.problem.plan) c.args.domain.now.rules.defs c.as_slice.result.now _ 32 c.in_ok-totals.ensures.matches (few_rules _ _ _ _ c.args.domain.now.rules.accepted)
 
 pub returns : goal.returns
 returns g c =

@@ -4,7 +4,7 @@ use Rattle.std.proofs.lemmas.List.{length-map, take_all}
 use Rattle.std.proofs.lemmas.List.Sums.{sum_by-take-le}
 use Rattle.serde_json.specs.View.{view}
 use Rattle.plan_facts.specs.Names.{with_name}
-use Rattle.problem_shapes.specs.Records.{records_of}
+use Rattle.problem_records.specs.Records.{records_of}
 use Rattle.problem_records.specs.Facts.{record_texts, class_texts, names_of}
 use Rattle.problem_records.proofs.Steps.{count_more, names_more}
 use Rattle.problem_records.proofs.names.names_of.Goals as goal

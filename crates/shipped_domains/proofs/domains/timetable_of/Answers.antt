@@ -1,14 +1,12 @@
-use Rattle.std.proofs.Common.{◌∙◌}
-use Rattle.shipped_domains.proofs.Parts.{timetable_parts}
-use Rattle.shipped_domains.proofs.Pairs.{IfOk-weaker}
+use Rattle.std.proofs.Common.{◌∙◌, codes}
+use Rattle.shipped_domains.proofs.Parts.{shipped_same, timetable_parts}
 use Rattle.shipped_domains.proofs.domains.timetable_of.Goals as goal
 
 pub returns-clause-view : goal.returns-clause-view
 returns-clause-view g c =
-    IfOk-weaker c.domain_of.result _ _ (λ domain view. view ∙ rw (c.in_ok-rules.ensures.defs, c.in_ok-rules.ensures.caps, c.args.closures.weighers_are_capped, c.in_ok-schema.ensures, c.in_ok-defs.ensures.value) timetable_parts) c.domain_of.ensures.view
+    c.in_ok-domain.ensures.view
+    ∙ rw (c.in_ok-rules.ensures.caps, c.in_ok-rules.ensures.defs, c.in_ok-rules.ensures.harder)
+    (shipped_same (codes "timetable") c.in_ok-schema.ensures c.in_ok-defs.ensures.value c.requires c.in_ok-harder.ensures ∙ timetable_parts)
 
 pub returns-clause-keeps : goal.returns-clause-keeps
-returns-clause-keeps g c = IfOk-weaker c.domain_of.result _ _ (λ domain same. rw same c.in_ok-rules.ensures.keeps) c.domain_of.ensures.rules
-
-pub returns-clause-makers : goal.returns-clause-makers
-returns-clause-makers g c = c.domain_of.ensures.makers
+returns-clause-keeps g c = rw c.in_ok-domain.ensures.rules c.in_ok-rules.ensures.keeps

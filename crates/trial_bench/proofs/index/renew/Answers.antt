@@ -1,9 +1,10 @@
-use Rattle.trial_bench.proofs.FreeLaws.{free_again, get_put}
+use Rattle.trial_bench.proofs.FreeLaws.{free_again}
+use Rattle.tuple_store.proofs.MapLaws.{put_there}
 use Rattle.std.proofs.Common.{◌∙◌}
 use Rattle.trial_bench.proofs.index.renew.Goals as goal
 
-pub kill-requires : goal.kill-requires
-kill-requires c = get_put _ _ c.args.size _ c.in_ok-put.ensures.ok
+pub kill-requires-clause-there : goal.kill-requires-clause-there
+kill-requires-clause-there c = put_there _ _ c.args.size _ c.in_ok-put.ensures.ok
 
 pub loop-round-preserved : goal.loop-round-preserved
 loop-round-preserved c = record {

@@ -9,13 +9,13 @@ pub returns-in-Some-Added-clause-base : goal.returns-in-Some-Added-clause-base
 returns-in-Some-Added-clause-base g c =
     let u = c.remove.ensures in
     let marked = sym c.mark_of.ensures ∙ c.in-Some-Added.is ∙ ap (λ (m : Mark). Some m) c.in-Some-Added.field-0-is in
-    rows_of-same is_base _ _ c.args.n (ap (shown is_base) u.changed ∙ sym (shown-marked is_base _ Added marked refl)) u.others
+    rows_of-same is_base _ _ c.args.n u.others (ap (shown is_base) u.changed ∙ sym (shown-marked is_base _ Added marked refl))
 
 pub returns-in-Some-Killed-clause-base : goal.returns-in-Some-Killed-clause-base
 returns-in-Some-Killed-clause-base g c =
     let u = c.mark.ensures in
     let marked = sym c.mark_of.ensures ∙ c.in-Some-Killed.is ∙ ap (λ (m : Mark). Some m) c.in-Some-Killed.field-0-is in
-    rows_of-same is_base _ _ c.args.n (ap (shown is_base) u.changed ∙ shown-remarked is_base _ Killed Kept marked refl refl) u.others
+    rows_of-same is_base _ _ c.args.n u.others (ap (shown is_base) u.changed ∙ shown-remarked is_base _ Killed Kept marked refl refl)
 
 pub returns-in-Some-Added-clause-fewer : goal.returns-in-Some-Added-clause-fewer
 returns-in-Some-Added-clause-fewer g c = fewer_slots _ _ c.args.n (λ e. absurd (none_there c.remove.ensures.changed e)) c.remove.ensures.others

@@ -9,13 +9,13 @@ pub returns-in-Some-Added-clause-now : goal.returns-in-Some-Added-clause-now
 returns-in-Some-Added-clause-now g c =
     let u = c.mark.ensures in
     let marked = sym c.mark_of.ensures ∙ c.in-Some-Added.is ∙ ap (λ (m : Mark). Some m) c.in-Some-Added.field-0-is in
-    rows_of-same is_now _ _ c.args.n (ap (shown is_now) u.changed ∙ shown-remarked is_now _ Added Kept marked refl refl) u.others
+    rows_of-same is_now _ _ c.args.n u.others (ap (shown is_now) u.changed ∙ shown-remarked is_now _ Added Kept marked refl refl)
 
 pub returns-in-Some-Killed-clause-now : goal.returns-in-Some-Killed-clause-now
 returns-in-Some-Killed-clause-now g c =
     let u = c.remove.ensures in
     let marked = sym c.mark_of.ensures ∙ c.in-Some-Killed.is ∙ ap (λ (m : Mark). Some m) c.in-Some-Killed.field-0-is in
-    rows_of-same is_now _ _ c.args.n (ap (shown is_now) u.changed ∙ sym (shown-marked is_now _ Killed marked refl)) u.others
+    rows_of-same is_now _ _ c.args.n u.others (ap (shown is_now) u.changed ∙ sym (shown-marked is_now _ Killed marked refl))
 
 pub returns-in-Some-Killed-clause-fewer : goal.returns-in-Some-Killed-clause-fewer
 returns-in-Some-Killed-clause-fewer g c = fewer_slots _ _ c.args.n (λ e. absurd (none_there c.remove.ensures.changed e)) c.remove.ensures.others

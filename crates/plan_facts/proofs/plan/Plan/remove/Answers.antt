@@ -7,8 +7,8 @@ use Rattle.plan_facts.proofs.plan.Plan.remove.Goals as goal
 pub let_go_in-requires : goal.let_go_in-requires
 let_go_in-requires c = (was_removed (plan_with c.self.inside.tables.items c.self.inside.made) c.args.class c.args.id c.index_mut-table.result.now c.remove.new.self (live_class (plan_with c.self.inside.tables.items c.self.inside.made) c.args.class c.args.id (rw (← c.self.view_is) at (sym c.if-not-is_live.ensures))) c.self.invariant.0 c.index_mut-table.ensures.value c.remove.ensures).counted
 
-pub count_all_nulls-self-inside-requires : goal.count_all_nulls-self-inside-requires
-count_all_nulls-self-inside-requires c =
+pub count_all_missing-self-inside-requires : goal.count_all_missing-self-inside-requires
+count_all_missing-self-inside-requires c =
     let w = was_removed (plan_with c.self.inside.tables.items c.self.inside.made) c.args.class c.args.id c.index_mut-table.result.now c.remove.new.self (live_class (plan_with c.self.inside.tables.items c.self.inside.made) c.args.class c.args.id (rw (← c.self.view_is) at (sym c.if-not-is_live.ensures))) c.self.invariant.0 c.index_mut-table.ensures.value c.remove.ensures in
     let same = ap (λ (tables : List ClassView). unplaced_of (plan_with tables 0)) (c.deref.ensures.value ∙ c.let_go_in.ensures) in
     omega (arith, w.few)
@@ -18,7 +18,7 @@ after c = was_removed (plan_with c.self.inside.tables.items c.self.inside.made) 
 
 pub invariant_of-self : goal.invariant_of-self
 invariant_of-self c =
-    (rw c.let_go_in.ensures (after c).sound, c.count_all_nulls-self-inside.ensures ∙ ap (λ (tables : List ClassView). unplaced_of (plan_with tables 0)) c.deref.ensures.value)
+    (rw c.let_go_in.ensures (after c).sound, c.count_all_missing-self-inside.ensures ∙ ap (λ (tables : List ClassView). unplaced_of (plan_with tables 0)) c.deref.ensures.value)
 
 pub returns-clause-removed : goal.returns-clause-removed
 returns-clause-removed c =

@@ -14,4 +14,4 @@ returns c =
     let moved = subst (λ (raws : List Raw). IsPermutation raws facts) c.into_items-facts.ensures c.sort_unstable_by_key.ensures.permutation in
     let is : facts ≡ by_id c.args.raws = sorted_by_id c.args.raws facts c.requires moved sorted in
     let greatest : c.greatest_of-greatest.result ≡ fold max 0 (ids_in (by_id c.args.raws)) = c.greatest_of-greatest.ensures ∙ ap (fold max 0) (c.deref-2.ensures.value ∙ ids ∙ ap ids_in is) in
-    λ i. record { fields = c.args.fields; ranges = c.args.ranges; facts = is i; greatest = greatest i }
+    λ i. record { fields = c.args.fields; ranges = c.args.ranges; nullables = c.args.nullables; facts = is i; greatest = greatest i }

@@ -14,4 +14,4 @@ pub returns : goal.returns
 returns c =
     let here = rw (← c.self.view_is) at c.in-Some.ensures in
     let facts = c.remove-in-Some.ensures.items ∙ removed_at c.self.inside.facts.items c.in-Some.place c.args.id (rw (← c.self.view_is) at c.requires.increasing) here.0 here.1 in
-    ap (λ (f : List Raw). let v : ClassView = record { fields = c.self.inside.fields; ranges = c.self.inside.ranges; facts = f; greatest = c.self.inside.greatest } in v) facts ∙ ap (λ (v : ClassView). without_record v c.args.id) c.self.view_is
+    ap (λ (f : List Raw). let v : ClassView = record { fields = c.self.inside.fields; ranges = c.self.inside.ranges; nullables = c.self.inside.nullables; facts = f; greatest = c.self.inside.greatest } in v) facts ∙ ap (λ (v : ClassView). without_record v c.args.id) c.self.view_is

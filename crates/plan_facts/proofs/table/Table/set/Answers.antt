@@ -26,5 +26,5 @@ returns-clause-held c =
 
 pub returns-clause-now : goal.returns-clause-now
 returns-clause-now c =
-    ap (λ (facts : List Raw). let v : ClassView = record { fields = c.self.inside.fields; ranges = c.self.inside.ranges; facts = facts; greatest = c.self.inside.greatest } in v) (changed c)
+    ap (λ (facts : List Raw). let v : ClassView = record { fields = c.self.inside.fields; ranges = c.self.inside.ranges; nullables = c.self.inside.nullables; facts = facts; greatest = c.self.inside.greatest } in v) (changed c)
     ∙ ap (λ v. with_record v c.args.id (λ raw. record raw { values = set raw.values c.args.var c.args.value })) c.self.view_is

@@ -21,4 +21,4 @@ pub invariant_of-self : goal.invariant_of-self
 invariant_of-self c = c.self.invariant ∙ sym (ap ids_in (changed c) ∙ ids_in-changed _ _ _ (λ raw. refl))
 
 pub returns : goal.returns
-returns c = ap (λ (facts : List Raw). let v : ClassView = record { fields = c.self.inside.fields; ranges = c.self.inside.ranges; facts = facts; greatest = c.self.inside.greatest } in v) (changed c) ∙ ap (λ v. with_record v c.args.id (λ raw. record raw { fields = set raw.fields c.args.field c.args.number })) c.self.view_is
+returns c = ap (λ (facts : List Raw). let v : ClassView = record { fields = c.self.inside.fields; ranges = c.self.inside.ranges; nullables = c.self.inside.nullables; facts = facts; greatest = c.self.inside.greatest } in v) (changed c) ∙ ap (λ v. with_record v c.args.id (λ raw. record raw { fields = set raw.fields c.args.field c.args.number })) c.self.view_is

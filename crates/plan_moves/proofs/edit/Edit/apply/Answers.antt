@@ -1,8 +1,8 @@
-use Rattle.std.proofs.Common.{◌∙◌, ap, sym, None, arith}
+use Rattle.std.proofs.Common.{◌∙◌, ap, None, arith}
 use Rattle.std.proofs.lemmas.List.{take_all}
 use Rattle.plan_moves.specs.declared.edit.Set.{Set}
 use Rattle.plan_moves.specs.Edits.{applied, is_legal}
-use Rattle.plan_moves.proofs.Shape.{IsApplied, legal_at, legal_there, legal_value, applied_none, applied_more}
+use Rattle.plan_moves.proofs.Shape.{legal_at, legal_there, legal_value, applied_none, applied_more}
 use Rattle.plan_moves.proofs.edit.Edit.apply.Goals as goal
 
 -- what a read past the end would give

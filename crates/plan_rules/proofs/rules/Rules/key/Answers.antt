@@ -1,15 +1,16 @@
-use Rattle.std.proofs.Common.{◌==◌, None, refl}
+use Rattle.std.proofs.Common.{◌==◌, None, refl, ap}
 use Rattle.std.proofs.lemmas.Option.{IfSome_then}
+use Rattle.plan_rules.specs.declared.places.Numbers.{Numbers}
 use Rattle.plan_rules.proofs.PlacesLaws.{find_by_place, borrowed_stands, found_there}
 use Rattle.plan_rules.proofs.rules.Rules.key.Goals as goal
 
 pub returns-in-Some-clause-found : goal.returns-in-Some-clause-found
 returns-in-Some-clause-found g c =
-    rw (find_by_place (λ key. key.number) c.args.number c.args.self.now.keys _ c.args.self.now.keys_at, ← c.place.ensures, c.in-Some.is) c.get.ensures
+    rw (find_by_place (λ key. key.number) c.args.number c.args.self.now.keys _ (ap (λ (n : Numbers). n.keys) c.args.self.now.numbered), ← c.place.ensures, c.in-Some.is) c.get.ensures
 
 pub returns-in-None-clause-found : goal.returns-in-None-clause-found
 returns-in-None-clause-found g c =
-    rw (find_by_place (λ key. key.number) c.args.number c.args.self.now.keys _ c.args.self.now.keys_at, ← c.place.ensures, c.in-None.is) refl
+    rw (find_by_place (λ key. key.number) c.args.number c.args.self.now.keys _ (ap (λ (n : Numbers). n.keys) c.args.self.now.numbered), ← c.place.ensures, c.in-None.is) refl
 
 pub returns-in-Some-clause-keeps : goal.returns-in-Some-clause-keeps
 returns-in-Some-clause-keeps g c = λ keeps.
@@ -18,8 +19,8 @@ returns-in-Some-clause-keeps g c = λ keeps.
 
 pub returns-in-Some-clause-there : goal.returns-in-Some-clause-there
 returns-in-Some-clause-there g c = λ there.
-    found_there (λ key. key.number) c.args.number c.args.self.now.keys _ c.get.result c.args.self.now.keys_at (returns-in-Some-clause-found g c) there
+    found_there (λ key. key.number) c.args.number c.args.self.now.keys _ c.get.result (ap (λ (n : Numbers). n.keys) c.args.self.now.numbered) (returns-in-Some-clause-found g c) there
 
 pub returns-in-None-clause-there : goal.returns-in-None-clause-there
 returns-in-None-clause-there g c = λ there.
-    found_there (λ key. key.number) c.args.number c.args.self.now.keys _ None c.args.self.now.keys_at (returns-in-None-clause-found g c) there
+    found_there (λ key. key.number) c.args.number c.args.self.now.keys _ None (ap (λ (n : Numbers). n.keys) c.args.self.now.numbered) (returns-in-None-clause-found g c) there

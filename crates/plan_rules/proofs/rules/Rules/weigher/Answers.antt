@@ -1,5 +1,6 @@
-use Rattle.std.proofs.Common.{◌==◌}
+use Rattle.std.proofs.Common.{◌==◌, ap}
 use Rattle.std.proofs.lemmas.Option.{IfSome_then}
+use Rattle.plan_rules.specs.declared.places.Numbers.{Numbers}
 use Rattle.plan_rules.proofs.PlacesLaws.{borrowed_stands, found_there}
 use Rattle.plan_rules.proofs.rules.Rules.weigher.Goals as goal
 
@@ -10,4 +11,4 @@ returns-clause-keeps g c = λ keeps.
 
 pub returns-clause-there : goal.returns-clause-there
 returns-clause-there g c = λ there.
-    found_there (λ weigher. weigher.number) c.args.number c.args.self.now.weighs _ c.weigher_at.result c.args.self.now.weighs_at c.weigher_at.ensures there
+    found_there (λ weigher. weigher.number) c.args.number c.args.self.now.weighs _ c.weigher_at.result (ap (λ (n : Numbers). n.weighs) c.args.self.now.numbered) c.weigher_at.ensures there

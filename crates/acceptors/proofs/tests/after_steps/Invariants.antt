@@ -1,0 +1,9 @@
+use Rattle.std.proofs.Common.{◌≡◌, ◌≤◌}
+use Rattle.acceptors.proofs.tests.after_steps.Given as goal
+
+-- the acceptor keeps the steps that were done
+abbrev pub invariant-loop-score : goal.invariant-loop-score
+invariant-loop-score l = record {
+  steps : l.acceptor.steps ≡ l.done;
+  few : l.done ≤ 1000;
+}

@@ -1,0 +1,268 @@
+//! Plans with what placing makes of them, worked by hand.
+use plan_facts::{List, Memory, Text};
+use plan_rules::{Head, Joiner, Node, RuleDef};
+use plan_scores::{Level, PlanScore, Score};
+use std::alloc::Global;
+
+pub(super) const SLOT: u8 = 0;
+
+pub(super) const ROOM: u8 = 1;
+
+pub(super) const LESSON: u8 = 2;
+
+pub(super) const DIFFICULTY: u16 = 0;
+
+pub(super) const PAST: u16 = 0;
+
+pub(super) const SHARED: u16 = 1;
+
+pub(super) const ROOMLESS: u16 = 2;
+
+/// A rule that penalizes each match by one, with at most one filter.
+fn rule(
+    alloc: Global,
+    name: &[u8],
+    level: Level,
+    head: Head,
+    filter: Option<u16>,
+) -> Result<RuleDef, Memory> {
+    let mut nodes = List::new(alloc);
+    if let Some(test) = filter {
+        nodes.push(Node::Filter(test))?;
+    }
+    Ok(RuleDef {
+        name: Text::from_slice(alloc, name)?,
+        level,
+        reward: false,
+        weight: 1,
+        weigh: None,
+        head,
+        nodes,
+    })
+}
+
+/// Two lessons shouldn't share a room, a lesson should have one, and its id and that of its room be at most 3 together.
+pub(super) fn rules(alloc: Global) -> Result<List<RuleDef>, Memory> {
+    let pairs = Head::Pairs(
+        LESSON,
+        List::from_slice(alloc, &[Joiner::Filtering(SHARED)])?,
+    );
+    let all = Head::ForEachNulls(LESSON);
+    let placed = Head::ForEach(LESSON);
+    let mut rules = List::new(alloc);
+    rules.push(rule(alloc, b"shared", Level::Hard, pairs, None)?)?;
+    rules.push(rule(alloc, b"roomless", Level::Medium, all, Some(ROOMLESS))?)?;
+    rules.push(rule(alloc, b"past", Level::Soft, placed, Some(PAST))?)?;
+    Ok(rules)
+}
+
+/// A lesson of a plan: its slot must be given, its room may stay null.
+pub(super) struct Lesson {
+    pub(super) id: u32,
+    pub(super) slot: Option<u32>,
+    pub(super) room: Option<u32>,
+    pub(super) pinned: bool,
+}
+
+/// A lesson as it is placed, and the plan's score then.
+pub(super) struct Wanted {
+    pub(super) lesson: u32,
+    pub(super) slot: u32,
+    pub(super) room: Option<u32>,
+    pub(super) score: PlanScore,
+}
+
+/// A plan with slots 1 to `slots`, rooms 1 to `rooms` and some lessons; whether harder ones are placed first, how lessons
+/// are placed, in order, and at which one that is stuck.
+pub(super) struct Case {
+    pub(super) name: &'static str,
+    pub(super) slots: u32,
+    pub(super) rooms: u32,
+    pub(super) lessons: &'static [Lesson],
+    pub(super) decreasing: bool,
+    pub(super) placed: &'static [Wanted],
+    pub(super) stuck: Option<u32>,
+}
+
+const ONE: Lesson = Lesson {
+    id: 1,
+    slot: None,
+    room: None,
+    pinned: false,
+};
+
+const TWO: Lesson = Lesson {
+    id: 2,
+    slot: None,
+    room: None,
+    pinned: false,
+};
+
+pub(super) const CASES: &[Case] = &[
+    Case {
+        name: "of equal scores the first one, the first variable first",
+        slots: 2,
+        rooms: 2,
+        lessons: &[TWO, ONE],
+        decreasing: false,
+        placed: &[
+            Wanted {
+                lesson: 1,
+                slot: 1,
+                room: Some(1),
+                score: PlanScore {
+                    unplaced: 1,
+                    score: Score {
+                        hard: 0,
+                        medium: -1,
+                        soft: 0,
+                    },
+                },
+            },
+            Wanted {
+                lesson: 2,
+                slot: 1,
+                room: Some(2),
+                score: PlanScore {
+                    unplaced: 0,
+                    score: Score {
+                        hard: 0,
+                        medium: 0,
+                        soft: -1,
+                    },
+                },
+            },
+        ],
+        stuck: None,
+    },
+    Case {
+        name: "what may stay null is best left null",
+        slots: 1,
+        rooms: 1,
+        lessons: &[
+            Lesson {
+                id: 1,
+                slot: Some(1),
+                room: Some(1),
+                pinned: false,
+            },
+            Lesson {
+                id: 2,
+                slot: Some(1),
+                room: None,
+                pinned: false,
+            },
+        ],
+        decreasing: false,
+        placed: &[Wanted {
+            lesson: 2,
+            slot: 1,
+            room: None,
+            score: PlanScore {
+                unplaced: 0,
+                score: Score {
+                    hard: 0,
+                    medium: -1,
+                    soft: 0,
+                },
+            },
+        }],
+        stuck: None,
+    },
+    Case {
+        name: "there is no slot",
+        slots: 0,
+        rooms: 1,
+        lessons: &[ONE, TWO],
+        decreasing: false,
+        placed: &[],
+        stuck: Some(1),
+    },
+    Case {
+        name: "a pinned one stays",
+        slots: 1,
+        rooms: 1,
+        lessons: &[
+            Lesson {
+                id: 1,
+                slot: None,
+                room: None,
+                pinned: true,
+            },
+            TWO,
+        ],
+        decreasing: false,
+        placed: &[Wanted {
+            lesson: 2,
+            slot: 1,
+            room: Some(1),
+            score: PlanScore {
+                unplaced: 1,
+                score: Score {
+                    hard: 0,
+                    medium: -1,
+                    soft: 0,
+                },
+            },
+        }],
+        stuck: None,
+    },
+    Case {
+        name: "harder ones first, by the remainder of their ids by 100",
+        slots: 1,
+        rooms: 2,
+        lessons: &[
+            ONE,
+            TWO,
+            Lesson {
+                id: 101,
+                slot: None,
+                room: None,
+                pinned: false,
+            },
+        ],
+        decreasing: true,
+        placed: &[
+            Wanted {
+                lesson: 2,
+                slot: 1,
+                room: Some(1),
+                score: PlanScore {
+                    unplaced: 2,
+                    score: Score {
+                        hard: 0,
+                        medium: -2,
+                        soft: 0,
+                    },
+                },
+            },
+            Wanted {
+                lesson: 1,
+                slot: 1,
+                room: Some(2),
+                score: PlanScore {
+                    unplaced: 1,
+                    score: Score {
+                        hard: 0,
+                        medium: -1,
+                        soft: 0,
+                    },
+                },
+            },
+            Wanted {
+                lesson: 101,
+                slot: 1,
+                room: None,
+                score: PlanScore {
+                    unplaced: 0,
+                    score: Score {
+                        hard: 0,
+                        medium: -1,
+                        soft: 0,
+                    },
+                },
+            },
+        ],
+        stuck: None,
+    },
+];

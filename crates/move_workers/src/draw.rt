@@ -1,0 +1,47 @@
+ghost use Rattle.std.specs.Prelude.{◌≡◌, ◌≤◌, map};
+ghost use Rattle.plan_draws.specs.Draws.{words};
+ghost use Rattle.plan_moves.specs.Made.{Fills};
+ghost use Rattle.move_selectors.specs.Candidates.{candidate_of};
+ghost use Rattle.move_selectors.specs.Pool.{IsPoolOf};
+
+use crate::kit::Kit;
+use move_selectors::{Pool, candidate};
+use plan_draws::Draws;
+use plan_facts::{Memory, Plan};
+use plan_moves::{Edit, MoveMaker};
+
+/// What candidates are drawn with: what they pick from, their words, and the edit of the last one.
+#[derive(Drop)]
+pub struct Hand {
+    pub pool: Pool,
+    pub draws: Draws,
+    pub edit: Edit,
+}
+
+/// Fills the hand's edit with a step's candidate under a number, and answers true; or answers false where none is made.
+pub fn draw<B>(
+    hand: &mut Hand,
+    kit: &Kit<'_, B>,
+    plan: &Plan,
+    step: u32,
+    number: u32,
+) -> Result<bool, Memory>
+    requires step { 1 ≤ step }
+    requires pool { IsPoolOf plan.now hand.old.pool }
+    ensures pool { IsPoolOf plan.now hand.new.pool }
+    ensures seed { hand.new.draws ≡ hand.old.draws }
+    ensures edit { let makes = map (λ maker. made maker) kit.now.makers.now in
+        let due = candidate_of plan.now kit.now.selectors.now makes (words hand.old.draws step number) in
+        Fills result due hand.new.edit }
+{
+    let words = hand.draws.words(step, number);
+    candidate(
+        kit.schema,
+        plan,
+        &mut hand.pool,
+        kit.selectors,
+        kit.makers,
+        &words,
+        &mut hand.edit,
+    )
+}

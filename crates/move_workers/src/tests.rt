@@ -1,0 +1,270 @@
+ghost use Rattle.std.specs.Prelude.{◌≡◌, ◌≤◌, IfOk};
+ghost use Rattle.plan_rules.specs.Range.{sizes_of};
+
+use crate::{Kit, Worker, director_alone};
+use plan_facts::{ClassDef, List, Memory, Plan, Raw, Schema, Text, VarDef};
+use plan_moves::{Set, Touch};
+use plan_rules::{Book, Head, Judges, Kept, RuleDef, Rules};
+use plan_scores::{Level, PlanScore, Score};
+use plan_settings::Selector;
+use std::alloc::Global;
+use std::process::Abort;
+use std::test::Fail;
+
+const SHIFT: u8 = 1;
+
+/// The book of rules that ask no closure.
+#[derive(Drop)]
+struct Silent;
+
+impl Book for Silent {
+    ghost use Rattle.std.specs.Prelude.{pos, false};
+
+    ghost meaning = { record { test_of = λ _ _. false; key_of = λ _ _. pos 0; weight_of = λ _ _. 0 } };
+}
+
+fn class_of(alloc: Global, name: &[u8]) -> Result<ClassDef, Memory> {
+    Ok(ClassDef {
+        name: Text::from_slice(alloc, name)?,
+        fields: List::new(alloc),
+        vars: List::new(alloc),
+    })
+}
+
+/// Nurses, and shifts with a nurse or without.
+fn schema_of(alloc: Global) -> Result<Schema, Fail> {
+    let mut shift = class_of(alloc, b"shift")?;
+    shift.vars.push(VarDef {
+        name: Text::from_slice(alloc, b"nurse")?,
+        values: 0,
+        nullable: true,
+    })?;
+    let mut classes = List::new(alloc);
+    classes.push(class_of(alloc, b"nurse")?)?;
+    classes.push(shift)?;
+    Ok(Schema::build(classes)?)
+}
+
+fn fact(alloc: Global, id: u32, values: &[Option<u32>]) -> Result<Raw, Memory> {
+    Ok(Raw {
+        id,
+        fields: List::new(alloc),
+        values: List::from_slice(alloc, values)?,
+        pinned: false,
+    })
+}
+
+/// Nurses 1 to 3, and shifts 1 to 4, of which the first is nurse 3's and the third nurse 1's.
+fn plan_of(alloc: Global, schema: &Schema) -> Result<Plan, Fail> {
+    let mut nurses = List::new(alloc);
+    for id in 1..4 {
+        nurses.push(fact(alloc, id, &[])?)?;
+    }
+    let mut shifts = List::new(alloc);
+    for (id, nurse) in [(1, Some(3)), (2, None), (3, Some(1)), (4, None)] {
+        shifts.push(fact(alloc, id, &[nurse])?)?;
+    }
+    let mut facts = List::new(alloc);
+    facts.push(nurses)?;
+    facts.push(shifts)?;
+    Ok(Plan::of(alloc, schema, facts)?)
+}
+
+/// One rule: each shift with a nurse is a penalty of 1.
+fn rules_of(alloc: Global, schema: &Schema) -> Result<Rules<Silent>, Fail>
+    ensures { IfOk result (λ rules. ⟦<Rules<Silent> as Kept>⟧.keeps rules) }
+{
+    let mut defs = List::new(alloc);
+    defs.push(RuleDef {
+        name: Text::from_slice(alloc, b"taken")?,
+        level: Level::Hard,
+        reward: false,
+        weight: 1,
+        weigh: None,
+        head: Head::ForEach(SHIFT),
+        nodes: List::new(alloc),
+    })?;
+    let rules = Rules::build(
+        alloc,
+        schema,
+        defs,
+        List::new(alloc),
+        List::new(alloc),
+        List::new(alloc),
+        List::new(alloc),
+    )?;
+    Ok(rules)
+}
+
+/// How many live facts each class has.
+fn sizes_of(alloc: Global, plan: &Plan) -> Result<List<u32>, Memory>
+    ensures { IfOk result (λ sizes. sizes ≡ sizes_of plan.now) }
+{
+    let mut sizes = List::new(alloc);
+    for class in 0..plan.classes() {
+        sizes.push(plan.ids(class).len() as u32)?;
+    }
+    Ok(sizes)
+}
+
+/// The weight of each rule, 1, where the rules may judge the plan under it.
+fn weights_of(alloc: Global, rules: &Rules<Silent>, plan: &Plan) -> Result<List<u32>, Fail>
+    requires { ⟦<Rules<Silent> as Kept>⟧.keeps rules.now }
+    ensures { IfOk result (λ weights. ⟦<Rules<Silent> as Judges>⟧.judges rules.now weights (sizes_of plan.now)) }
+{
+    let sizes = sizes_of(alloc, plan)?;
+    let weights = List::from_slice(alloc, &[1])?;
+    if rules.count() != 1
+        || rules
+            .range_fault(sizes.as_slice(), weights.as_slice())
+            .is_some()
+    {
+        return Err("out of range".into());
+    }
+    Ok(weights)
+}
+
+/// A plan with nothing unplaced and so many shifts with a nurse.
+fn taken(shifts: u32) -> PlanScore {
+    PlanScore {
+        unplaced: 0,
+        score: Score {
+            hard: -i64::from(shifts),
+            medium: 0,
+            soft: 0,
+        },
+    }
+}
+
+/// A candidate's number, and what is found: how many shifts have a nurse after it, and the shifts that it touches.
+type Case = (u32, Option<(u32, &'static [u32])>);
+
+fn expect_touched(rt: &impl Abort, touched: &[Touch], shifts: &[u32]) {
+    assert_eq!(rt; touched.len(), shifts.len());
+    for (touch, id) in touched.iter().zip(shifts) {
+        assert_eq!(rt; (touch.class, touch.id), (SHIFT, *id));
+    }
+}
+
+/// What is found of the candidates of a step is as wanted.
+fn expect_found(
+    rt: &impl Abort,
+    worker: &mut Worker<Silent>,
+    kit: &Kit<'_, Silent>,
+    step: u32,
+    case: Case,
+) -> Result<(), Memory>
+    requires judges { let seen = worker.old.director in
+        ⟦<Rules<Silent> as Judges>⟧.judges kit.now.rules.now seen.weights (sizes_of seen.plan) }
+    requires own { kit.now.rules.now.defs ≡ worker.old.director.rules }
+    requires seed { kit.now.seed ≡ worker.old.seed }
+    requires step { 1 ≤ step }
+    ensures { worker.new ≡ worker.old }
+{
+    let found = worker.judge(kit, step, case.0)?;
+    assert_eq!(rt; found.is_some(), case.1.is_some());
+    if let (Some(found), Some((shifts, ids))) = (found, case.1) {
+        assert_eq!(rt; found.score, taken(shifts));
+        expect_touched(rt, found.touched.as_slice(), ids);
+    }
+    Ok(())
+}
+
+/// The worker's plan has these nurses in shifts 1 to 4, and its score.
+fn expect_nurses(rt: &impl Abort, worker: &Worker<Silent>, nurses: [Option<u32>; 4], shifts: u32) {
+    let facts = worker.plan().facts(SHIFT);
+    assert_eq!(rt; facts.len(), nurses.len());
+    for (raw, nurse) in facts.iter().zip(nurses) {
+        assert_eq!(rt; raw.values.as_slice(), [nurse].as_slice());
+    }
+    assert_eq!(rt; worker.score(), taken(shifts));
+}
+
+fn kit_of<'a>(schema: &'a Schema, rules: &'a Rules<Silent>) -> Kit<'a, Silent>
+    ensures rules { result.rules.now ≡ rules.now }
+    ensures seed { result.seed ≡ 0 }
+{
+    Kit {
+        rules,
+        schema,
+        makers: &[],
+        selectors: &[Selector::Change, Selector::PillarChange],
+        seed: 0,
+    }
+}
+
+/// A worker on the plan.
+fn worker_of(alloc: Global, kit: &Kit<'_, Silent>) -> Result<Worker<Silent>, Fail>
+    requires { ⟦<Rules<Silent> as Kept>⟧.keeps kit.now.rules.now }
+    ensures judges { IfOk result (λ worker. let seen = worker.director in
+        ⟦<Rules<Silent> as Judges>⟧.judges kit.now.rules.now seen.weights (sizes_of seen.plan)) }
+    ensures own { IfOk result (λ worker. kit.now.rules.now.defs ≡ worker.director.rules) }
+    ensures seed { IfOk result (λ worker. kit.now.seed ≡ worker.seed) }
+{
+    let plan = plan_of(alloc, kit.schema)?;
+    let weights = weights_of(alloc, kit.rules, &plan)?;
+    let director = director_alone(alloc, kit.rules, plan, weights)?;
+    Ok(Worker::new(alloc, kit, director)?)
+}
+
+/// Judges the candidates of the first step whose words are known.
+fn judge_three(
+    rt: &impl Abort,
+    worker: &mut Worker<Silent>,
+    kit: &Kit<'_, Silent>,
+) -> Result<(), Memory>
+    requires judges { let seen = worker.old.director in
+        ⟦<Rules<Silent> as Judges>⟧.judges kit.now.rules.now seen.weights (sizes_of seen.plan) }
+    requires own { kit.now.rules.now.defs ≡ worker.old.director.rules }
+    requires seed { kit.now.seed ≡ worker.old.seed }
+    ensures { worker.new ≡ worker.old }
+{
+    expect_found(rt, worker, kit, 1, (0, Some((2, &[3]))))?;
+    expect_found(rt, worker, kit, 1, (1, None))?;
+    expect_found(rt, worker, kit, 1, (2, Some((4, &[2, 4]))))?;
+    expect_nurses(rt, worker, [Some(3), None, Some(1), None], 2);
+    Ok(())
+}
+
+fn emptied(id: u32) -> Set {
+    Set {
+        class: SHIFT,
+        id,
+        var: 0,
+        value: None,
+    }
+}
+
+/// Plays two pillars, one after the other, and judges what is left.
+fn play_two(rt: &impl Abort, worker: &mut Worker<Silent>, kit: &Kit<'_, Silent>) -> Result<(), Fail>
+    requires judges { let seen = worker.old.director in
+        ⟦<Rules<Silent> as Judges>⟧.judges kit.now.rules.now seen.weights (sizes_of seen.plan) }
+    requires own { kit.now.rules.now.defs ≡ worker.old.director.rules }
+    requires seed { kit.now.seed ≡ worker.old.seed }
+{
+    let back = worker.play(kit, 1, 2)?.ok_or("not doable")?;
+    assert_eq!(rt; back.sets(), [emptied(2), emptied(4)].as_slice());
+    expect_nurses(rt, worker, [Some(3), Some(3), Some(1), Some(3)], 4);
+    expect_found(rt, worker, kit, 1, (2, None))?;
+    expect_found(rt, worker, kit, 2, (9733, Some((4, &[3]))))?;
+    assert!(rt; worker.play(kit, 2, 9733)?.is_some());
+    assert!(rt; worker.play(kit, 1, 0)?.is_none());
+    expect_nurses(rt, worker, [Some(3); 4], 4);
+    Ok(())
+}
+
+// The words are those of plan_draws' tests. Under seed 0 nurse 3 gets, by candidates 0 and 2 of step 1, the third and the
+// second of three pillars, and by candidate 9733 of step 2 the second of two; candidate 1 of step 1 gives shift 3 to nurse 1.
+#[test]
+fn candidates_are_judged_and_played(rt: HostRuntime) -> Result<(), Fail> {
+    let alloc = rt.alloc();
+    let schema = schema_of(alloc)?;
+    let rules = rules_of(alloc, &schema)?;
+    let kit = kit_of(&schema, &rules);
+    let mut worker = worker_of(alloc, &kit)?;
+    judge_three(&rt, &mut worker, &kit)?;
+    play_two(&rt, &mut worker, &kit)?;
+    assert_eq!(rt; worker.director().score(), taken(4));
+    assert_eq!(rt; worker.into_plan().facts(SHIFT).len(), 4);
+    Ok(())
+}

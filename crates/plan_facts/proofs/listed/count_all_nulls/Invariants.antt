@@ -1,7 +1,0 @@
-use Rattle.std.proofs.Common.{◌≡◌, take}
-use Rattle.plan_facts.specs.Plan.{plan_with, unplaced_of}
-use Rattle.plan_facts.proofs.listed.count_all_nulls.Given as goal
-
--- the nulls so far
-abbrev pub invariant-loop-table : goal.invariant-loop-table
-invariant-loop-table l = l.nulls ≡ unplaced_of (plan_with (take l.table-index l.tables) 0)

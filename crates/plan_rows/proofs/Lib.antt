@@ -1,5 +1,0 @@
-pub mod Found
-pub mod Listed
-pub mod Entered
-pub mod Grouped
-pub mod Streamed

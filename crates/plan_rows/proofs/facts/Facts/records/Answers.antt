@@ -1,5 +1,0 @@
-use Rattle.plan_rows.proofs.Found.{facts_past}
-use Rattle.plan_rows.proofs.facts.Facts.records.Goals as goal
-
-pub returns-in-None : goal.returns-in-None
-returns-in-None c = rw (← c.self.view_is) (facts_past c.self.inside.classes c.args.class c.in-None.ensures)

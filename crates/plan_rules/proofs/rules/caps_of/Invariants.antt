@@ -1,8 +1,0 @@
-use Rattle.std.proofs.Common.{◌≡◌, map, take}
-use Rattle.plan_rules.specs.Range.{cap_of}
-use Rattle.plan_rules.proofs.rules.caps_of.Given as goal
-
--- the caps so far
-abbrev pub invariant-loop-rule : goal.invariant-loop-rule
-invariant-loop-rule g l =
-    l.caps ≡ map (cap_of (map (λ weigher. record { number = weigher.number; cap = weigher.cap }) l.weighs)) (take l.rule-index l.defs)

@@ -1,0 +1,37 @@
+-- What the program's words ask for.
+use Rattle.std.specs.Prelude.{ℕ, List, Option, Some, None, option_and_then}
+use Rattle.plan_words.specs.Command.{command}
+use Rattle.plan_words.specs.declared.command.Command.{Command}
+use Rattle.plan_words.specs.declared.command.Command.TheVariants.{Solve, Replay, Score, Explain, Gen, Tour}
+use Rattle.plan_search.specs.Posed.{Posed}
+use Rattle.plan_search.specs.RunLines.{score_text, solve_text}
+use Rattle.plan_session.specs.declared.task.Wanted.{Wanted}
+use Rattle.plan_session.specs.declared.task.Wanted.TheVariants as want
+
+-- what a command asks for: the name of a problem, and what is wanted of it
+pub record Task : Type 0 where
+  pub name : List ℕ
+  pub wanted : Wanted
+
+-- the task of a name
+abbrev pub task : List ℕ → Wanted → Task
+task name wanted = record { name = name; wanted = wanted }
+
+-- the commands that are built so far: `solve` without a feed, and `score`
+abbrev pub task_of : Command → Option Task
+task_of (Solve name None workers buffer) = Some (task name want.Solution)
+task_of (Solve name (Some feed) workers buffer) = None
+task_of (Replay name feed journal) = None
+task_of (Score name) = Some (task name want.Score)
+task_of (Explain name) = None
+task_of (Gen number size) = None
+task_of (Tour number size workers buffer) = None
+
+-- the task that the words ask for; none where they are no command, or none that is built
+unfoldable pub task_asked : List (List ℕ) → Option Task
+task_asked words = option_and_then task_of (command words)
+
+-- the text that is wanted of a posed problem
+abbrev pub text_wanted : Wanted → Posed → List ℕ
+text_wanted want.Solution = solve_text
+text_wanted want.Score = score_text

@@ -1,3 +1,0 @@
-pub mod Records
-pub mod Shapes
-pub mod Known

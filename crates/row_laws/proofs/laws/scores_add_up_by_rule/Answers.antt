@@ -1,5 +1,0 @@
-use Rattle.row_laws.proofs.Scores.{scores_are_of_rules}
-use Rattle.row_laws.proofs.laws.scores_add_up_by_rule.Goals as goal
-
-pub returns : goal.returns
-returns c = record { sum = scores_are_of_rules }

@@ -1,3 +1,0 @@
-pub mod Bags
-pub mod Laws
-pub mod Order

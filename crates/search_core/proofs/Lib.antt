@@ -1,0 +1,15 @@
+pub mod Entries
+pub mod Decided
+pub mod InStep
+pub mod Looked
+pub mod GoesOn
+pub mod Plays
+pub mod Steps
+pub mod Agrees
+pub mod Order
+pub mod HasRoom
+pub mod Boundaries
+pub mod Told
+pub mod Taken
+pub mod OfRun
+pub mod OtherNumbers

@@ -1,0 +1,25 @@
+use Rattle.std.proofs.Common.{◌≡◌, ◌∙◌, None, refl, sym}
+use Rattle.search_core.specs.ByNumber.{value_at}
+use Rattle.search_core.proofs.Looked.{entries-with, judged-with, same-with}
+use Rattle.search_core.proofs.machine.Core.judge.Goals as goal
+
+pub returns-clause-answers : goal.returns-clause-answers
+returns-clause-answers c = λ d k.
+    let core = c.args.self.now in
+    let none : d.verdicts c.args.number ≡ None = sym (k.verdicts c.args.number) ∙ c.in_default.ensures.new in
+    record {
+      taken = sym (c.judge_fault.ensures.fault d k) ∙ c.in_default.is;
+      replied = refl;
+      keeps = record {
+        cuts = k.cuts;
+        posts = k.posts;
+        chosen = k.chosen;
+        phase = k.phase;
+        asked = k.asked;
+        history = k.history;
+        claims = k.claims;
+        verdicts = same-with d.verdicts (value_at core.verdicts) (value_at c.put.new.self) c.args.number c.args.found c.in_ok-put.ensures.ok k.verdicts;
+        looked = judged-with d.verdicts c.args.number c.args.found core.looked none k.looked;
+        entries = k.entries ∙ entries-with core.settings d.history d.verdicts c.args.number c.args.found core.looked none k.looked;
+      };
+    }

@@ -1,0 +1,10 @@
+use Rattle.std.proofs.Common.{◌≡◌, All, map}
+use Rattle.plan_rules.specs.Meaning.{TestAnswers}
+use Rattle.shipped_domains.specs.Meaning.{shipped_test}
+use Rattle.shipped_domains.proofs.rules.tests_of.Given as goal
+
+-- the closures so far, which keep their word
+abbrev pub invariant-loop-shipped : goal.invariant-loop-shipped
+invariant-loop-shipped g l =
+    (map (λ one. one.number) l.tests ≡ map (λ one. one.number) l.yielded)
+    × All (λ one. TestAnswers (λ r answer. (goal.Fn-dyn g).post (one.body.vtable, one.body.value) (r, tt) answer) (shipped_test one.number)) l.tests

@@ -1,0 +1,11 @@
+pub mod Bags
+pub mod Beside
+pub mod Change
+pub mod Codes
+pub mod Equality
+pub mod Exact
+pub mod Filled
+pub mod FilledBack
+pub mod Meant
+pub mod Numbers
+pub mod Standing

@@ -1,0 +1,8 @@
+use Rattle.std.proofs.Common.{◌∙◌, ap, nat_cmp}
+use Rattle.std.specs.FinMap as map
+use Rattle.std.specs.FinMap.{get-empty}
+use Rattle.stream_index.specs.View.{IndexView}
+use Rattle.trial_bench.proofs.beside.with_index.Goals as goal
+
+pub fill-requires : goal.fill-requires
+fill-requires g c = record { free = λ q le. ap (λ (v : IndexView). map.get v.now q) c.new-index.ensures ∙ get-empty nat_cmp q }

@@ -1,0 +1,113 @@
+//! An index beside a plain map of lists: the same moves with both.
+ghost use Rattle.std.specs.Prelude.{◌≡◌, false};
+
+use crate::clocked::{no_memory, tenths_since};
+use crate::index::{self, read_buckets};
+use crate::plain::{self, Plain};
+use std::alloc::Global;
+use std::io;
+use std::rt::Clock;
+use std::time::Instant;
+use stream_index::Index;
+
+/// How long one of each of the moves took, in tenths of a nanosecond.
+#[derive(Clone, Copy)]
+struct Spent {
+    put: u64,
+    renew: u64,
+    look: u64,
+    trial: u64,
+}
+
+/// The shorter time of each of the moves.
+fn shorter(a: Spent, b: Spent) -> Spent {
+    Spent {
+        put: a.put.min(b.put),
+        renew: a.renew.min(b.renew),
+        look: a.look.min(b.look),
+        trial: a.trial.min(b.trial),
+    }
+}
+
+/// The times of an index, and what its buckets come to.
+fn with_index(rt: &impl Clock, alloc: Global, size: u64) -> io::Result<(Spent, u64)> {
+    let mut index = Index::new(alloc);
+    let start = Instant::now(rt)?;
+    index::fill(&mut index, size).map_err(|_| no_memory())?;
+    let put = tenths_since(rt, start, size)?;
+    let start = Instant::now(rt)?;
+    index::renew(&mut index, size, size).map_err(|_| no_memory())?;
+    let renew = tenths_since(rt, start, size)?;
+    let start = Instant::now(rt)?;
+    let sum = read_buckets(&index, size, size);
+    let look = tenths_since(rt, start, size)?;
+    let start = Instant::now(rt)?;
+    index::try_out(&mut index, size, size).map_err(|_| no_memory())?;
+    let trial = tenths_since(rt, start, size)?;
+    let spent = Spent {
+        put,
+        renew,
+        look,
+        trial,
+    };
+    Ok((spent, sum))
+}
+
+/// The times of a plain map, and what its lists come to.
+fn with_plain(rt: &impl Clock, alloc: Global, size: u64) -> io::Result<(Spent, u64)> {
+    let mut plain = Plain::new(alloc);
+    let start = Instant::now(rt)?;
+    plain::fill(&mut plain, size).map_err(|_| no_memory())?;
+    let put = tenths_since(rt, start, size)?;
+    let start = Instant::now(rt)?;
+    plain::renew(&mut plain, size, size).map_err(|_| no_memory())?;
+    let renew = tenths_since(rt, start, size)?;
+    let start = Instant::now(rt)?;
+    let sum = plain::read(&plain, size, size);
+    let look = tenths_since(rt, start, size)?;
+    let start = Instant::now(rt)?;
+    plain::try_out(&mut plain, size, size).map_err(|_| no_memory())?;
+    let trial = tenths_since(rt, start, size)?;
+    let spent = Spent {
+        put,
+        renew,
+        look,
+        trial,
+    };
+    Ok((spent, sum))
+}
+
+/// Says one time beside the other, and their ratio.
+fn report(rt: &impl Eprint, size: u64, what: &str, index: u64, plain: u64) -> io::Result<()> {
+    let ratio = index.saturating_mul(100) / plain.max(1);
+    let whole = ratio / 100;
+    let part = ratio % 100;
+    let index = index / 10;
+    let plain = plain / 10;
+    eprintln!(rt; "{what} at {size}: {index} ns, {plain} of a plain map, ratio {whole}.{part:02}")
+}
+
+/// Drives both at a size, so many times, and says the least times where they are asked for.
+pub fn drive<R: Print + Eprint + Clock>(
+    rt: &R,
+    alloc: Global,
+    times: bool,
+    size: u64,
+) -> io::Result<()> {
+    let (mut index, buckets) = with_index(rt, alloc, size)?;
+    let (mut plain, lists) = with_plain(rt, alloc, size)?;
+    rt.println(format_args!(
+        "buckets of {size}: places come to {buckets}, and to {lists} in lists"
+    ))?;
+    if !times {
+        return Ok(());
+    }
+    for _ in 0..20 {
+        index = shorter(index, with_index(rt, alloc, size)?.0);
+        plain = shorter(plain, with_plain(rt, alloc, size)?.0);
+    }
+    report(rt, size, "put", index.put, plain.put)?;
+    report(rt, size, "put and kill", index.renew, plain.renew)?;
+    report(rt, size, "look-up of ten", index.look, plain.look)?;
+    report(rt, size, "trial of three", index.trial, plain.trial)
+}

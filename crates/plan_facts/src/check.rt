@@ -11,6 +11,9 @@ pub const FIELD_LIMIT: i64 = 1_000_000_000;
 /// How many facts may ever be made.
 pub const FACT_LIMIT: u32 = 100_000;
 
+/// The greatest id that a record may be given.
+pub const ID_LIMIT: u32 = 1_000_000_000;
+
 /// Knows which facts are live.
 pub trait LiveFacts {
     ghost live: { Self → ℕ → ℕ → Bool };

@@ -14,7 +14,7 @@ mod schema;
 mod table;
 mod text;
 
-pub use check::{FACT_LIMIT, FIELD_LIMIT};
+pub use check::{FACT_LIMIT, FIELD_LIMIT, ID_LIMIT};
 pub use fault::PlanFault;
 pub use list::List;
 pub use memory::Memory;

@@ -8,7 +8,7 @@ ghost use Rattle.plan_facts.specs.Refusal.{IsRefusal};
 ghost use Rattle.plan_facts.specs.PlanFaults.{record_fault, class_fault, record_values_fault, class_values_fault, classes_fault, all_values_fault, ranges_of, nullables_of, class_with, plan_of, plan_fault};
 ghost use Rattle.std.specs.Result.{result_err};
 
-use crate::check::{FACT_LIMIT, LiveFacts, check_fields, check_values};
+use crate::check::{FACT_LIMIT, ID_LIMIT, LiveFacts, check_fields, check_values};
 use crate::fault::PlanFault;
 use crate::list::List;
 use crate::memory::Memory;
@@ -17,9 +17,6 @@ use crate::schema::Schema;
 use crate::table::Table;
 use std::alloc::Global;
 use std::collections::HashSet;
-
-/// The greatest id that a record may be given.
-const ID_LIMIT: u32 = 1_000_000_000;
 
 /// The ids of the records of each class, before there is a plan.
 #[derive(Drop)]

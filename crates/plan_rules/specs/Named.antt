@@ -1,6 +1,7 @@
 -- What a rule names: its joiners, classes and closures, and how many parts its rows have.
-use Rattle.std.specs.Prelude.{◌+◌, ℕ, List, [], ◌∷◌, ◌++◌, map, Option, Some, None, length}
+use Rattle.std.specs.Prelude.{◌+◌, ℕ, List, [], ◌∷◌, ◌++◌, map, Option, Some, None, length, slice_get}
 use Rattle.std.specs.List.{flat_map, filter_map}
+use Rattle.std.specs.Option.{option_map_or}
 use Rattle.plan_rules.specs.declared.rule.Joiner.{Joiner}
 use Rattle.plan_rules.specs.declared.rule.Joiner.TheVariants as joiner
 use Rattle.plan_rules.specs.declared.rule.Collect.{Collect}
@@ -22,6 +23,10 @@ key_named number = record { kind = kind.Key; number = number }
 
 abbrev pub weigher_named : ℕ → Named
 weigher_named number = record { kind = kind.Weigh; number = number }
+
+-- the name of a rule; nothing where there is no such rule
+abbrev pub rule_name : List RuleDef → ℕ → List ℕ
+rule_name rules rule = option_map_or (λ r. r.name) (slice_get rules rule) []
 
 -- the joiners of a head
 abbrev pub head_joiners : Head → List Joiner

@@ -3,6 +3,7 @@
 
 mod check;
 mod closures;
+mod copies;
 mod fault;
 mod handed;
 mod harder;
@@ -18,6 +19,7 @@ mod steps;
 
 pub use check::WEIGHT_LIMIT;
 pub use closures::{Book, Judges, Kept, Key, KeyBody, Test, TestBody, Weigh, WeighBody};
+pub use copies::copy_rules;
 pub use fault::{ClosureKind, RangeFault, RuleFault};
 pub use laws::{
     changes_add_up, changes_lead_through_nodes, order_comes_back, order_may_be_forgotten,

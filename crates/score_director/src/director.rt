@@ -1,9 +1,8 @@
-use crate::copies::rules_copy;
 use crate::rows::rows_of;
 use plan_facts::{List, Memory, Plan, Schema};
 use plan_moves::Edit;
 use plan_recalc::{Totals, recalc};
-use plan_rules::{Book, Judges, Row, RuleDef, Rules, Steps};
+use plan_rules::{Book, Judges, Row, RuleDef, Rules, Steps, copy_rules};
 use plan_scores::PlanScore;
 use std::alloc::Global;
 use std::marker::{Model, PhantomData};
@@ -61,7 +60,7 @@ impl<B: Book> Director<B> {
         let totals = recalc(alloc, rules, &plan, weights.as_slice(), steps)?;
         Ok(Director {
             alloc,
-            rules: rules_copy(alloc, rules.defs.as_slice())?,
+            rules: copy_rules(alloc, rules.defs.as_slice())?,
             weights,
             plan,
             totals,

@@ -1,7 +1,6 @@
 //! The director: a plan with its score, and edits of it that are attempted, taken back, kept and judged.
 #![tactic(auto)]
 
-mod copies;
 mod director;
 mod rows;
 

@@ -1,5 +1,5 @@
 use Rattle.std.proofs.Common.{◌≡◌, take}
-use Rattle.score_director.proofs.copies.rules_copy.Given as goal
+use Rattle.plan_rules.proofs.copies.copy_rules.Given as goal
 
 -- the rules so far
 abbrev pub invariant-loop-rule : goal.invariant-loop-rule

@@ -1,5 +1,5 @@
 use Rattle.std.proofs.Common.{◌≡◌, take}
-use Rattle.score_director.proofs.copies.nodes_copy.Given as goal
+use Rattle.plan_rules.proofs.copies.copy_nodes.Given as goal
 
 -- the nodes so far
 abbrev pub invariant-loop-node : goal.invariant-loop-node

@@ -12,7 +12,7 @@ abbrev pub winner_among : List Seen → Option Seen
 winner_among entries = first_best score_of (filter is_accepted entries)
 
 -- and of one more
-winner_among-push : (entries : List Seen) (entry : Seen) → winner_among (entries ++ entry ∷ []) ≡ cond entry.accepted (Some (or_better score_of (winner_among entries) entry)) (winner_among entries)
+pub winner_among-push : (entries : List Seen) (entry : Seen) → winner_among (entries ++ entry ∷ []) ≡ cond entry.accepted (Some (or_better score_of (winner_among entries) entry)) (winner_among entries)
 winner_among-push entries entry =
     ap (first_best score_of) (filter-append is_accepted entries (entry ∷ []))
     ∙ elim entry.accepted as (λ (a : Bool). first_best score_of (filter is_accepted entries ++ cond a (entry ∷ []) []) ≡ cond a (Some (or_better score_of (winner_among entries) entry)) (winner_among entries)) [

@@ -1,1 +1,2 @@
 pub mod Forage
+pub mod Forages

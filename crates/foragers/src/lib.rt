@@ -5,6 +5,9 @@ ghost use Rattle.std.specs.Prelude.{◌≡◌, ◌≤◌, Some, length, option_m
 ghost use Rattle.plan_scores.specs.Best.{or_better};
 ghost use Rattle.foragers.specs.Forage.{limits_of, seen_of, is_ended, winning_number, number_of, score_of, is_picked_early};
 
+mod forager;
+
+pub use forager::Forager;
 use plan_scores::PlanScore;
 use plan_settings::Early;
 

@@ -41,6 +41,12 @@ fn limits_and_early_picks_end_what_is_seen(rt: HostRuntime) -> Result<(), Fail> 
         assert_eq!(rt; pick.seen, seen);
         assert_eq!(rt; pick.done, done);
         assert_eq!(rt; pick.winner, Some(winner));
+        let mut forager = Forager::new();
+        for entry in entries {
+            forager.see(entry, limit, early, &soft(0), &soft(-1));
+        }
+        assert_eq!(rt; forager.is_done(), done);
+        assert_eq!(rt; forager.winner(), Some(winner));
     }
     let none = forage(&[], 1, Early::Never, &soft(0), &soft(-1));
     assert_eq!(rt; none.seen, 0);

@@ -5,7 +5,8 @@ use Rattle.std.specs.Option.{option_map, option_to_list}
 use Rattle.plan_settings.specs.declared.settings.Settings.{Settings}
 use Rattle.acceptors.specs.History.{History}
 use Rattle.foragers.specs.declared.Seen.{Seen}
-use Rattle.foragers.specs.Forage.{Limits, ends_step, is_ended, is_ended_after, seen_after, is_accepted, score_of, winner_of}
+use Rattle.foragers.specs.Forage.{Limits, is_ended, is_accepted, score_of, winner_of}
+use Rattle.foragers.proofs.Looks.{seen_after-more}
 use Rattle.plan_scores.specs.Best.{first_best}
 use Rattle.plan_search.specs.declared.found.Found.{Found}
 use Rattle.plan_search.specs.Judging.{entry_at, entry_of, judged_from, limits_at, winning}
@@ -82,17 +83,6 @@ find-first test first (suc count) n le lt fails passes =
           ap (λ (b : Bool). cond b (Some first) (find test (range_with_len (first + 1) count))) (fails first (omega arith) past)
           ∙ find-first test (first + 1) count n (omega arith) (omega arith) (λ m low high. fails m (omega arith) high) passes
     ] refl
-
--- entries after the one that ends the step change nothing of what it sees
-pub seen_after-more : (limits : Limits) (before xs ys : List Seen) → is_ended_after limits before xs ≡ true
-    → seen_after limits before (xs ++ ys) ≡ seen_after limits before xs
-seen_after-more limits before [] ys ended = cc
-seen_after-more limits before (x ∷ xs) ys ended =
-    elim (ends_step limits before x) as (λ (b : Bool). cond b true (is_ended_after limits (before ++ x ∷ []) xs) ≡ true
-    → x ∷ cond b [] (seen_after limits (before ++ x ∷ []) (xs ++ ys)) ≡ x ∷ cond b [] (seen_after limits (before ++ x ∷ []) xs)) [
-      | true ↦ λ k. refl
-      | false ↦ λ k. ap (λ (seen : List Seen). x ∷ seen) (seen_after-more limits (before ++ x ∷ []) xs ys k)
-    ] ended
 
 -- the winner among some numbers is that among all, where the step is ended by then or no number is left
 pub winning-is : (s : Settings) (h : History) (found : ℕ → Option Found) (asked : ℕ) → asked ≤ s.select_limit

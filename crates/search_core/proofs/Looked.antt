@@ -1,13 +1,13 @@
 -- What is looked at of a step's verdicts, and how it goes on.
-use Rattle.std.proofs.Common.{◌≡◌, ◌∙◌, ℕ, ◌+◌, ◌<◌, ◌≤◌, ◌==◌, if◌then◌else◌, Bool, true, false, IsSome, is_none, is_some, List, ◌++◌, Option, Some, None, refl, sym, ap, arith}
-use Rattle.std.specs.Option.{option_and_then, option_map, option_to_list}
+use Rattle.std.proofs.Common.{◌≡◌, ◌∙◌, ℕ, ◌+◌, ◌<◌, ◌≤◌, ◌==◌, if◌then◌else◌, Bool, true, false, IsSome, is_none, is_some, ◌++◌, Option, Some, None, refl, sym, ap, arith}
+use Rattle.std.specs.Option.{option_and_then}
 use Rattle.plan_settings.specs.declared.settings.Settings.{Settings}
 use Rattle.acceptors.specs.History.{History}
-use Rattle.foragers.specs.declared.Seen.{Seen}
 use Rattle.plan_search.specs.declared.found.Found.{Found}
-use Rattle.plan_search.specs.Judging.{entry_of, judged_from}
+use Rattle.plan_search.specs.Judging.{judged_from}
 use Rattle.search_core.specs.ByNumber.{AreSame, with_value}
 use Rattle.search_core.specs.Desk.{Desk, found_in, unjudged}
+use Rattle.search_core.specs.Judged.{entry_for}
 use Rattle.search_core.proofs.Entries.{find-first, find-none, judged_from-more, judged_from-same}
 
 -- the numbers below one are judged
@@ -23,16 +23,13 @@ judged-more verdicts looked v is judged n lt =
       | false ↦ λ e. judged n (grind arith)
     ] refl
 
--- its entry, if it has one, joins the others
-pub entries-more : (s : Settings) (h : History) (verdicts : ℕ → Option (Option Found)) (looked : ℕ) (v : Option Found) (old new : List Seen)
-    → verdicts looked ≡ Some v → old ≡ judged_from s h (found_in verdicts) 0 looked
-    → new ≡ old ++ option_to_list (option_map (entry_of s h looked) v) → new ≡ judged_from s h (found_in verdicts) 0 (looked + 1)
-entries-more s h verdicts looked v old new is before pushed =
+-- the entries of the numbers that were looked at, with that of one more
+pub entries-more : (s : Settings) (h : History) (verdicts : ℕ → Option (Option Found)) (looked : ℕ) (v : Option Found) → verdicts looked ≡ Some v
+    → judged_from s h (found_in verdicts) 0 looked ++ entry_for s h looked v ≡ judged_from s h (found_in verdicts) 0 (looked + 1)
+entries-more s h verdicts looked v is =
     let here : v ≡ found_in verdicts looked = sym (ap (λ (o : Option (Option Found)). option_and_then (λ (f : Option Found). f) o) is) in
-    pushed
-    ∙ (ap (λ (xs : List Seen). xs ++ option_to_list (option_map (entry_of s h looked) v)) before
-    ∙ (ap (λ (o : Option Found). judged_from s h (found_in verdicts) 0 looked ++ option_to_list (option_map (entry_of s h looked) o)) here
-    ∙ sym (judged_from-more s h (found_in verdicts) looked)))
+    ap (λ (o : Option Found). judged_from s h (found_in verdicts) 0 looked ++ entry_for s h looked o) here
+    ∙ sym (judged_from-more s h (found_in verdicts) looked)
 
 -- a number that wasn't judged isn't among those that were
 apart : (verdicts : ℕ → Option (Option Found)) (number n looked : ℕ) → verdicts number ≡ None → AreJudged verdicts looked → n < looked

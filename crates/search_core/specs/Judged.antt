@@ -4,8 +4,10 @@ use Rattle.plan_settings.specs.declared.settings.Settings.{Settings}
 use Rattle.acceptors.specs.History.{History}
 use Rattle.acceptors.specs.Stands.{Kept, StandsFor}
 use Rattle.foragers.specs.declared.Seen.{Seen}
+use Rattle.foragers.specs.declared.forager.Forager.{Forager}
+use Rattle.foragers.specs.Forages.{Forages}
 use Rattle.plan_search.specs.declared.found.Found.{Found}
-use Rattle.plan_search.specs.Judging.{acceptor_size, entry_of}
+use Rattle.plan_search.specs.Judging.{acceptor_size, entry_of, limits_at}
 use Rattle.search_core.specs.Desk.{after_found}
 
 -- an acceptor of a search with these settings stands for a history
@@ -22,10 +24,11 @@ IsEntry kept number found seen = (s : Settings) (h : History) → SearchesBy kep
 abbrev pub entry_for : Settings → History → ℕ → Option Found → List Seen
 entry_for s h number verdict = option_to_list (option_map (entry_of s h number) verdict)
 
--- whatever search the acceptor is of, the entry of a verdict, if it has one, joins the others
-abbrev pub EntryJoins : Kept → ℕ → Option Found → List Seen → List Seen → Type 0
-EntryJoins kept number verdict old new =
-    (s : Settings) (h : History) → SearchesBy kept s h → new ≡ old ++ entry_for s h number verdict
+-- whatever the forager looked at in a step of such a search, it then looked at the entry of a verdict too, if it has one
+abbrev pub LooksOn : Kept → Settings → ℕ → Option Found → Forager → Forager → Type 0
+LooksOn kept s number verdict old new =
+    (h : History) (entries : List Seen) → SearchesBy kept s h → Forages (limits_at s h) entries old
+    → Forages (limits_at s h) (entries ++ entry_for s h number verdict) new
 
 -- the acceptor goes on by what was found of a step's winner, if it has one
 abbrev pub GoesOnBy : Kept → Option Found → Kept → Type 0

@@ -2,7 +2,8 @@
 use Rattle.std.specs.Prelude.{◌≡◌, ℕ, ◌+◌, ◌<◌, ◌^◌, IsSome, List, ◌∷◌, None, Result, MatchResult}
 use Rattle.plan_facts.specs.Refusal.{IsRefusal}
 use Rattle.acceptors.specs.Stands.{StandsFor as AcceptorStandsFor}
-use Rattle.plan_search.specs.Judging.{judged_from}
+use Rattle.foragers.specs.Forages.{Forages}
+use Rattle.plan_search.specs.Judging.{judged_from, limits_at}
 use Rattle.search_core.specs.declared.event.Event.{Event}
 use Rattle.search_core.specs.declared.event.Event.TheVariants.{Post}
 use Rattle.search_core.specs.declared.event.Reply.{Reply}
@@ -16,7 +17,7 @@ use Rattle.search_core.specs.Desk.{Terms, Desk, desk, fault_of, found_on, next_d
 abbrev pub terms_of : Core → Terms
 terms_of core = record { settings = core.settings; buffer = core.buffer }
 
--- a core keeps a desk; the numbers that it has looked at are judged, and it has their entries
+-- a core keeps a desk; the numbers that it has looked at are judged, and its forager saw their entries
 pub record Keeps (core : Core) (d : Desk) : Type 0 where
   pub cuts : core.cuts ≡ d.cuts
   pub posts : core.posts ≡ d.posts
@@ -27,7 +28,8 @@ pub record Keeps (core : Core) (d : Desk) : Type 0 where
   pub claims : AreSame (value_at core.claims) d.claims
   pub verdicts : AreSame (value_at core.verdicts) d.verdicts
   pub looked : (n : ℕ) → n < core.looked → IsSome (d.verdicts n)
-  pub entries : core.entries.items ≡ judged_from core.settings d.history (found_on d) 0 core.looked
+  pub forages : (let entries = judged_from core.settings d.history (found_on d) 0 core.looked in
+      Forages (limits_at core.settings d.history) entries core.forager)
 
 -- every desk that the one core keeps is kept by the other
 abbrev pub KeepsOn : Core → Core → Type 0

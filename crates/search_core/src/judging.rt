@@ -1,14 +1,14 @@
-ghost use Rattle.std.specs.Prelude.{◌≡◌, ◌≤◌, ◌+◌, OnOk, OnErr, option_copied, vec_len};
+ghost use Rattle.std.specs.Prelude.{◌≡◌, ◌+◌, OnOk, OnErr, option_copied};
 ghost use Rattle.std.specs.Option.{option_and_then};
 ghost use Rattle.acceptors.specs.Stands.{HasRoom, SameSettings, StandsStill};
 ghost use Rattle.plan_search.specs.Judging.{acceptor_size};
 ghost use Rattle.search_core.specs.ByNumber.{value_at};
 ghost use Rattle.search_core.specs.Desk.{found_in};
-ghost use Rattle.search_core.specs.Judged.{EntryJoins, GoesOnBy, IsEntry};
+ghost use Rattle.search_core.specs.Judged.{GoesOnBy, IsEntry, LooksOn};
 
 use crate::by_number::ByNumber;
 use acceptors::Acceptor;
-use foragers::Seen;
+use foragers::{Forager, Seen};
 use plan_facts::Memory;
 use plan_search::Found;
 use plan_settings::{AcceptorKind, Settings};
@@ -64,20 +64,23 @@ fn entry_of(acceptor: &Acceptor, number: u32, found: &Found) -> Seen
     }
 }
 
-/// Puts the entry of a candidate that was judged at the end, where the candidate can be made.
-pub fn push_entry(
-    entries: &mut Vec<Seen>,
+/// Shows a forager the entry of a candidate that was judged, where the candidate can be made.
+pub fn show_entry(
+    forager: &mut Forager,
+    settings: &Settings,
     acceptor: &Acceptor,
     number: u32,
     verdict: &Option<Found>,
-) -> Result<(), Memory>
-    ensures ok { OnOk result (EntryJoins acceptor.now number verdict.now entries.old.items entries.new.items) }
-    ensures err { OnErr result (entries.new.items ≡ entries.old.items) }
-    ensures len { vec_len entries.new ≤ vec_len entries.old + 1 }
-    ensures len_err { OnErr result (vec_len entries.new ≡ vec_len entries.old) }
+)
+    ensures { LooksOn acceptor.now settings.now number verdict.now forager.old forager.new }
 {
     if let Some(found) = verdict {
-        entries.push(entry_of(acceptor, number, found))?;
+        forager.see(
+            entry_of(acceptor, number, found),
+            settings.accepted_limit,
+            settings.pick_early,
+            &acceptor.best(),
+            &acceptor.last(),
+        );
     }
-    Ok(())
 }

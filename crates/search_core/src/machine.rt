@@ -5,9 +5,9 @@ ghost use Rattle.plan_search.specs.Judging.{acceptor_size};
 
 use crate::by_number::ByNumber;
 use crate::event::{CoreFault, Event, Reply};
-use crate::judging::{acceptor_size, advance, found_of_winner, push_entry};
+use crate::judging::{acceptor_size, advance, found_of_winner, show_entry};
 use acceptors::Acceptor;
-use foragers::{Pick, Seen, forage};
+use foragers::Forager;
 use plan_facts::Memory;
 use plan_scores::{PlanScore, Score};
 use plan_search::Found;
@@ -42,7 +42,7 @@ pub struct Core {
     claims: ByNumber<u32>,
     verdicts: ByNumber<Option<Found>>,
     looked: u32,
-    entries: Vec<Seen>,
+    forager: Forager,
     ghost settings_in_range: { IsInRange settings },
     ghost buffer_in_range: { (1 ≤ buffer) × (buffer ≤ 1024) },
     ghost cuts_within: { cuts ≤ settings.steps + 1 },
@@ -51,7 +51,6 @@ pub struct Core {
     ghost asked_within: { asked ≤ settings.select_limit },
     ghost looked_within: { looked ≤ asked },
     ghost looked_open: { phase ≢ Open → looked ≡ 0 },
-    ghost entries_within: { vec_len entries ≤ looked },
     ghost acceptor_kind: { acceptor.kind ≡ settings.acceptor },
     ghost acceptor_size: { acceptor.size ≡ acceptor_size settings },
     ghost acceptor_steps: { acceptor.steps ≤ chosen },
@@ -88,7 +87,7 @@ impl Core {
             claims: ByNumber::new(alloc),
             verdicts: ByNumber::new(alloc),
             looked: 0,
-            entries: Vec::new(alloc),
+            forager: Forager::new(),
         })
     }
 
@@ -290,59 +289,62 @@ impl Core {
     }
 
     /// Looks at the next asked number, if it is judged: its entry, if it has one, joins the others.
-    fn look_at_next(&mut self) -> Result<bool, Memory>
+    fn look_at_next(&mut self) -> bool
         requires open { self.old.phase ≡ Phase.Open }
         requires more { self.old.looked < self.old.asked }
         ensures keeps { KeepsOn self.old self.new }
-        ensures judged { IfOk result (λ judged. OnTrue judged (self.new.looked ≡ self.old.looked + 1)) }
-        ensures unjudged { IfOk result (λ judged. OnFalse judged (value_at self.new.verdicts self.new.looked ≡ None)) }
-        ensures stays { IfOk result (λ judged. OnFalse judged (self.new.looked ≡ self.old.looked)) }
+        ensures judged { OnTrue result (self.new.looked ≡ self.old.looked + 1) }
+        ensures unjudged { OnFalse result (value_at self.new.verdicts self.new.looked ≡ None) }
+        ensures stays { OnFalse result (self.new.looked ≡ self.old.looked) }
         ensures asked { self.new.asked ≡ self.old.asked }
         ensures phase { self.new.phase ≡ self.old.phase }
         ensures terms { terms_of self.new ≡ terms_of self.old }
     {
         let Some(verdict) = self.verdicts.get(self.looked) else {
-            return Ok(false);
+            return false;
         };
-        push_entry(&mut self.entries, &self.acceptor, self.looked, verdict)?;
+        show_entry(
+            &mut self.forager,
+            &self.settings,
+            &self.acceptor,
+            self.looked,
+            verdict,
+        );
         self.looked += 1;
-        Ok(true)
+        true
     }
 
     /// Looks at the asked numbers in order as far as they are judged: the first one that isn't, if any.
-    fn look(&mut self) -> Result<Option<u32>, Memory>
+    fn look(&mut self) -> Option<u32>
         requires { self.old.phase ≡ Phase.Open }
         ensures keeps { KeepsOn self.old self.new }
-        ensures unjudged { IfOk result (λ number. (d : Desk) → Keeps self.new d → number ≡ unjudged d) }
-        ensures all { IfOk result (λ number. IfNone number (self.new.looked ≡ self.new.asked)) }
+        ensures unjudged { (d : Desk) → Keeps self.new d → result ≡ unjudged d }
+        ensures all { IfNone result (self.new.looked ≡ self.new.asked) }
         ensures phase { self.new.phase ≡ self.old.phase }
         ensures terms { terms_of self.new ≡ terms_of self.old }
     {
         'numbers: while self.looked < self.asked {
-            if !self.look_at_next()? {
-                return Ok(Some(self.looked));
+            if !self.look_at_next() {
+                return Some(self.looked);
             }
         }
-        Ok(None)
+        None
     }
 
-    /// What the asked numbers decide, which are all looked at.
-    fn pick(&self) -> Pick
+    /// Whether the asked numbers, which are all looked at, decide the step.
+    fn is_decided(&self) -> bool
         requires { self.now.looked ≡ self.now.asked }
-        ensures done { (d : Desk) → Keeps self.now d → result.done ≡ is_decided (terms_of self.now) d }
-        ensures winner { (d : Desk) → Keeps self.now d → result.winner ≡ choice_on (terms_of self.now) d }
+        ensures { (d : Desk) → Keeps self.now d → result ≡ is_decided (terms_of self.now) d }
     {
-        let pick = forage(
-            &self.entries,
-            self.settings.accepted_limit,
-            self.settings.pick_early,
-            &self.acceptor.best(),
-            &self.acceptor.last(),
-        );
-        Pick {
-            done: pick.done || self.asked == self.settings.select_limit,
-            ..pick
-        }
+        self.forager.is_done() || self.asked == self.settings.select_limit
+    }
+
+    /// The number of the winner among the asked numbers, which are all looked at.
+    fn winner(&self) -> Option<u32>
+        requires { self.now.looked ≡ self.now.asked }
+        ensures { (d : Desk) → Keeps self.now d → result ≡ choice_on (terms_of self.now) d }
+    {
+        self.forager.winner()
     }
 
     /// The step ends with this winner, if any.
@@ -361,7 +363,7 @@ impl Core {
         self.claims.clear();
         self.verdicts.clear();
         self.looked = 0;
-        self.entries.clear();
+        self.forager = Forager::new();
         Ok(())
     }
 
@@ -385,13 +387,13 @@ impl Core {
         if let Some(fault) = self.step_fault(step) {
             return Err(fault);
         }
-        if let Some(number) = self.look()? {
+        if let Some(number) = self.look() {
             return Err(CoreFault::Unjudged(number));
         }
-        let pick = self.pick();
-        if pick.done {
-            self.end_step(pick.winner)?;
-            return Ok(Reply::Chosen(pick.winner));
+        if self.is_decided() {
+            let winner = self.winner();
+            self.end_step(winner)?;
+            return Ok(Reply::Chosen(winner));
         }
         Ok(self.ask_more())
     }

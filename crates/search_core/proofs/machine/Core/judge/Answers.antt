@@ -1,4 +1,7 @@
-use Rattle.std.proofs.Common.{◌≡◌, ◌∙◌, None, refl, sym}
+use Rattle.std.proofs.Common.{◌≡◌, ◌∙◌, List, None, refl, sym, subst}
+use Rattle.foragers.specs.declared.Seen.{Seen}
+use Rattle.foragers.specs.Forages.{Forages}
+use Rattle.plan_search.specs.Judging.{limits_at}
 use Rattle.search_core.specs.ByNumber.{value_at}
 use Rattle.search_core.proofs.Looked.{entries-with, judged-with, same-with}
 use Rattle.search_core.proofs.machine.Core.judge.Goals as goal
@@ -20,6 +23,7 @@ returns-clause-answers c = λ d k.
         claims = k.claims;
         verdicts = same-with d.verdicts (value_at core.verdicts) (value_at c.put.new.self) c.args.number c.args.found c.in_ok-put.ensures.ok k.verdicts;
         looked = judged-with d.verdicts c.args.number c.args.found core.looked none k.looked;
-        entries = k.entries ∙ entries-with core.settings d.history d.verdicts c.args.number c.args.found core.looked none k.looked;
+        forages = subst (λ (entries : List Seen). Forages (limits_at core.settings d.history) entries core.forager)
+            (entries-with core.settings d.history d.verdicts c.args.number c.args.found core.looked none k.looked) k.forages;
       };
     }

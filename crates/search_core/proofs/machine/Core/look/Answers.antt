@@ -7,13 +7,13 @@ on_false : (b : Bool) (P : Type 0) → b ≡ false → OnFalse b P → P
 on_false true P is fact = absurd cc
 on_false false P is fact = fact
 
-pub returns-then-not-branch-clause-unjudged : goal.returns-then-not-branch-clause-unjudged
-returns-then-not-branch-clause-unjudged c = λ d k.
+pub returns-then-not-look_at_next-clause-unjudged : goal.returns-then-not-look_at_next-clause-unjudged
+returns-then-not-look_at_next-clause-unjudged c = λ d k.
     let core = c.look_at_next.new.self in
-    let judged = c.in_ok-look_at_next.field-0 in
-    let ensures = c.in_ok-look_at_next.ensures in
-    let none = on_false judged _ c.if-not-branch.true ensures.unjudged in
-    let stays : core.looked ≡ c.numbers.self.looked = on_false judged _ c.if-not-branch.true ensures.stays in
+    let judged = c.look_at_next.result in
+    let ensures = c.look_at_next.ensures in
+    let none = on_false judged _ c.if-not-look_at_next.true ensures.unjudged in
+    let stays : core.looked ≡ c.numbers.self.looked = on_false judged _ c.if-not-look_at_next.true ensures.stays in
     let asked : core.asked ≡ c.numbers.self.asked = ensures.asked in
     let more : core.looked < core.asked = omega arith in
     unjudged-first d core.asked core.looked k.asked more k.looked (sym (k.verdicts core.looked) ∙ none)

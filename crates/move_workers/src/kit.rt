@@ -1,9 +1,8 @@
 ghost use Rattle.std.specs.Prelude.{◌<◌, ◌≤◌, ◌^◌, length};
 
 use plan_facts::Schema;
-use plan_moves::{Edit, MoveMaker};
+use plan_moves::MoveMaker;
 use plan_rules::Rules;
-use plan_scores::PlanScore;
 use plan_settings::Selector;
 
 /// What workers judge by, which a search leaves as it is: rules over a schema, fewer than 2^32 makers of moves, 1 to 8
@@ -18,12 +17,4 @@ pub struct Kit<'a, B> {
     pub ghost some: { 1 ≤ length selectors.now },
     pub ghost few: { length selectors.now ≤ 8 },
     pub ghost few_makers: { length makers.now < 2 ^ 32 },
-}
-
-/// A doable candidate of a step: its number, its edit, and the plan's score after it.
-#[derive(Drop)]
-pub struct Judged {
-    pub number: u32,
-    pub edit: Edit,
-    pub score: PlanScore,
 }

@@ -8,7 +8,7 @@ mod laws;
 mod worker;
 
 pub use alone::director_alone;
-pub use kit::{Judged, Kit};
+pub use kit::Kit;
 pub use laws::workers_search;
 pub use worker::Worker;
 

@@ -2,7 +2,7 @@ ghost use Rattle.std.specs.Prelude.{◌≡◌, ◌≤◌, IfOk};
 ghost use Rattle.plan_rules.specs.Range.{sizes_of};
 
 use crate::{Kit, Worker, director_alone};
-use plan_facts::{ClassDef, List, Memory, Plan, Raw, Schema, Text, VarDef};
+use plan_facts::{List, Memory, Plan, Schema, Text};
 use plan_moves::{Set, Touch};
 use plan_rules::{Book, Head, Judges, Kept, RuleDef, Rules};
 use plan_scores::{Level, PlanScore, Score};
@@ -10,6 +10,9 @@ use plan_settings::Selector;
 use std::alloc::Global;
 use std::process::Abort;
 use std::test::Fail;
+use test_plans::FactSketch::{Entity, Fact};
+use test_plans::VarSketch::Nullable;
+use test_plans::{ClassSketch, FactSketch, plan_of, schema_of};
 
 const SHIFT: u8 = 1;
 
@@ -23,52 +26,22 @@ impl Book for Silent {
     ghost meaning = { record { test_of = λ _ _. false; key_of = λ _ _. pos 0; weight_of = λ _ _. 0 } };
 }
 
-fn class_of(alloc: Global, name: &[u8]) -> Result<ClassDef, Memory> {
-    Ok(ClassDef {
-        name: Text::from_slice(alloc, name)?,
-        fields: List::new(alloc),
-        vars: List::new(alloc),
-    })
-}
-
 /// Nurses, and shifts with a nurse or without.
-fn schema_of(alloc: Global) -> Result<Schema, Fail> {
-    let mut shift = class_of(alloc, b"shift")?;
-    shift.vars.push(VarDef {
-        name: Text::from_slice(alloc, b"nurse")?,
-        values: 0,
-        nullable: true,
-    })?;
-    let mut classes = List::new(alloc);
-    classes.push(class_of(alloc, b"nurse")?)?;
-    classes.push(shift)?;
-    Ok(Schema::build(classes)?)
-}
-
-fn fact(alloc: Global, id: u32, values: &[Option<u32>]) -> Result<Raw, Memory> {
-    Ok(Raw {
-        id,
-        fields: List::new(alloc),
-        values: List::from_slice(alloc, values)?,
-        pinned: false,
-    })
-}
+const CLASSES: &[ClassSketch] = &[
+    ClassSketch("nurse", &[], &[]),
+    ClassSketch("shift", &[], &[Nullable("nurse", 0)]),
+];
 
 /// Nurses 1 to 3, and shifts 1 to 4, of which the first is nurse 3's and the third nurse 1's.
-fn plan_of(alloc: Global, schema: &Schema) -> Result<Plan, Fail> {
-    let mut nurses = List::new(alloc);
-    for id in 1..4 {
-        nurses.push(fact(alloc, id, &[])?)?;
-    }
-    let mut shifts = List::new(alloc);
-    for (id, nurse) in [(1, Some(3)), (2, None), (3, Some(1)), (4, None)] {
-        shifts.push(fact(alloc, id, &[nurse])?)?;
-    }
-    let mut facts = List::new(alloc);
-    facts.push(nurses)?;
-    facts.push(shifts)?;
-    Ok(Plan::of(alloc, schema, facts)?)
-}
+const FACTS: &[&[FactSketch]] = &[
+    &[Fact(1, &[]), Fact(2, &[]), Fact(3, &[])],
+    &[
+        Entity(1, &[], &[Some(3)]),
+        Entity(2, &[], &[None]),
+        Entity(3, &[], &[Some(1)]),
+        Entity(4, &[], &[None]),
+    ],
+];
 
 /// One rule: each shift with a nurse is a penalty of 1.
 fn rules_of(alloc: Global, schema: &Schema) -> Result<Rules<Silent>, Fail>
@@ -201,7 +174,7 @@ fn worker_of(alloc: Global, kit: &Kit<'_, Silent>) -> Result<Worker<Silent>, Fai
     ensures own { IfOk result (λ worker. kit.now.rules.now.defs ≡ worker.director.rules) }
     ensures seed { IfOk result (λ worker. kit.now.seed ≡ worker.seed) }
 {
-    let plan = plan_of(alloc, kit.schema)?;
+    let plan = plan_of(alloc, kit.schema, FACTS)?;
     let weights = weights_of(alloc, kit.rules, &plan)?;
     let director = director_alone(alloc, kit.rules, plan, weights)?;
     Ok(Worker::new(alloc, kit, director)?)
@@ -258,7 +231,7 @@ fn play_two(rt: &impl Abort, worker: &mut Worker<Silent>, kit: &Kit<'_, Silent>)
 #[test]
 fn candidates_are_judged_and_played(rt: HostRuntime) -> Result<(), Fail> {
     let alloc = rt.alloc();
-    let schema = schema_of(alloc)?;
+    let schema = schema_of(alloc, CLASSES)?;
     let rules = rules_of(alloc, &schema)?;
     let kit = kit_of(&schema, &rules);
     let mut worker = worker_of(alloc, &kit)?;

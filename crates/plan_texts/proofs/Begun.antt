@@ -33,6 +33,7 @@ use Rattle.search_core.specs.declared.event.Event.TheVariants.{Cut, Start}
 use Rattle.search_core.specs.declared.event.CoreFault.TheVariants.{BadBoundary}
 use Rattle.search_core.specs.declared.machine.Core.{Core}
 use Rattle.search_core.specs.Desk.{Terms, desk}
+use Rattle.search_core.specs.Keeps.{HasNoFault, StandsFor}
 use Rattle.search_core.specs.OneThread.{BeginsStep}
 use Rattle.search_core.specs.Truth.{IsTaken}
 use Rattle.plan_texts.specs.declared.best.BestSoFar.{BestSoFar}
@@ -47,11 +48,19 @@ use Rattle.plan_texts.specs.Writes.{IsReportOf}
 use Rattle.plan_texts.proofs.Played.{not_better_than_itself}
 use Rattle.plan_texts.proofs.Printed.{prints_front, prints_more, prints_nothing}
 
--- the first cut and the start of a leg are taken
-leg_is_taken : (t : Terms) (score : PlanScore) → IsTaken t (Start score ∷ Cut 0 ∷ [])
-leg_is_taken t score =
+-- the first cut is taken
+first_cut_is_taken : (t : Terms) → IsTaken t (Cut 0 ∷ [])
+first_cut_is_taken t =
     let right : nat_lt t.settings.steps 0 ≡ false = grind arith in
-    ((tt, ap (λ (b : Bool). if b then Some (BadBoundary 0) else None) right), refl)
+    (tt, ap (λ (b : Bool). if b then Some (BadBoundary 0) else None) right)
+
+-- and so is the start of a leg
+leg_is_taken : (t : Terms) (score : PlanScore) → IsTaken t (Start score ∷ Cut 0 ∷ [])
+leg_is_taken t score = (first_cut_is_taken t, refl)
+
+-- behind the first cut the start of a leg is due
+pub start_is_due : (t : Terms) (core : Core) (score : PlanScore) → StandsFor t core (Cut 0 ∷ []) → HasNoFault core (Start score)
+start_is_due t core score stands = record { terms = t; events = Cut 0 ∷ []; stands = stands; none = refl }
 
 -- the first step begins behind them, if there is one
 leg_begins : (t : Terms) (score : PlanScore) → 0 < t.settings.steps

@@ -29,7 +29,7 @@ use Rattle.search_core.specs.declared.machine.Core.{Core}
 use Rattle.search_core.specs.declared.event.Event.{Event}
 use Rattle.search_core.specs.declared.event.Event.TheVariants.{Cut}
 use Rattle.search_core.specs.Desk.{Terms, begins_leg, desk}
-use Rattle.search_core.specs.Keeps.{StandsFor, terms_of}
+use Rattle.search_core.specs.Keeps.{HasNoFault, StandsFor, terms_of}
 use Rattle.search_core.specs.OneThread.{BeginsAt, BeginsStep, step_events, winner_number, won_history}
 use Rattle.search_core.specs.Truth.{IsTaken}
 use Rattle.search_core.proofs.Boundaries.{cut-begins, cut-taken}
@@ -95,16 +95,35 @@ does_step old mid new k found buffer limit first quiet chosen cut = record {
   stands = λ at. cut at.terms (step_events at.terms k found at.events) (chosen at);
 }
 
-to_do : (old new : Core) (k : ℕ) (found : ℕ → Option Found) → DoesStep old new k found → (at : BeginsAt old k) → IsTaken at.terms at.events
-    → IsToDo at.terms k at.history at.events
-to_do old new k found does at taken =
+to_do_at : (old : Core) (k : ℕ) → 1 ≤ old.buffer → 1 ≤ old.settings.select_limit → 1 ≤ k → IsQuiet old
+    → (at : BeginsAt old k) → IsTaken at.terms at.events → IsToDo at.terms k at.history at.events
+to_do_at old k buffer limit first quiet at taken =
     let same = at.stands.terms in record {
-      buffer = subst (λ (t : Terms). 1 ≤ t.buffer) same does.buffer;
-      limit = subst (λ (t : Terms). 1 ≤ t.settings.select_limit) same does.limit;
-      first = does.first;
-      quiet = sym at.stands.keeps.posts ∙ does.quiet;
+      buffer = subst (λ (t : Terms). 1 ≤ t.buffer) same buffer;
+      limit = subst (λ (t : Terms). 1 ≤ t.settings.select_limit) same limit;
+      first = first;
+      quiet = sym at.stands.keeps.posts ∙ quiet;
       taken = taken;
       begins = at.begins;
+    }
+
+to_do : (old new : Core) (k : ℕ) (found : ℕ → Option Found) → DoesStep old new k found → (at : BeginsAt old k) → IsTaken at.terms at.events
+    → IsToDo at.terms k at.history at.events
+to_do old new k found does at taken = to_do_at old k does.buffer does.limit does.first does.quiet at taken
+
+-- once its winner is chosen, the boundary behind a step is due
+pub cut_is_due : (old mid : Core) (k : ℕ) (found : ℕ → Option Found) → 1 ≤ old.buffer → 1 ≤ old.settings.select_limit → 1 ≤ k → IsQuiet old
+    → ((at : BeginsAt old k) → StandsFor at.terms mid (step_events at.terms k found at.events)) → IsReady old k
+    → k ≤ (terms_of old).settings.steps → HasNoFault mid (Cut k)
+cut_is_due old mid k found buffer limit first quiet chosen ready within =
+    let at = ready.begins in
+    let todo = to_do_at old k buffer limit first quiet at ready.taken in
+    let same : (terms_of old).settings.steps ≡ at.terms.settings.steps = ap (λ (t : Terms). t.settings.steps) at.stands.terms in
+    record {
+      terms = at.terms;
+      events = step_events at.terms k found at.events;
+      stands = chosen at;
+      none = (step_and_cut-taken at.terms k at.history found at.events todo (omega arith)).1;
     }
 
 -- the next step begins, if there is one

@@ -1,11 +1,13 @@
 -- Where a search without a feed stands after so many steps.
 use Rattle.std.specs.Prelude.{◌≡◌, ◌<◌, ℕ, suc, Bool, false, List, [], ◌∷◌, Option, option_map}
+use Rattle.acceptors.specs.History.{History}
 use Rattle.plan_scores.specs.Order.{is_better_plan}
 use Rattle.foragers.specs.Forage.{number_of}
 use Rattle.plan_settings.specs.declared.setting.Selector.{Selector}
 use Rattle.plan_rules.specs.Meaning.{Meaning}
 use Rattle.plan_rules.specs.Range.{sizes_of}
 use Rattle.move_selectors.specs.Candidates.{Made}
+use Rattle.plan_search.specs.declared.found.Found.{Found}
 use Rattle.plan_search.specs.Game.{found_at}
 use Rattle.plan_search.specs.Judging.{winning}
 use Rattle.plan_search.specs.Leg.{best_of, history_of, next_step, state_of}
@@ -32,14 +34,22 @@ state_after posed n = state_of (leg_after posed n)
 abbrev pub best_after : Posed → ℕ → State
 best_after posed n = best_of (game posed) (leg_after posed n)
 
+-- what the acceptor remembers of so many steps
+abbrev pub history_after : Posed → ℕ → History
+history_after posed n = history_of (game posed) (leg_after posed n)
+
+-- what is found of each candidate of the step after so many
+abbrev pub found_after : Posed → ℕ → ℕ → Option Found
+found_after posed n = found_at (game posed) (suc n) (state_after posed n)
+
 -- the number of the candidate that wins the step after so many
 abbrev pub winner_after : Posed → ℕ → Option ℕ
 winner_after posed n =
-    option_map number_of
-    (winning posed.settings (history_of (game posed) (leg_after posed n)) (found_at (game posed) (suc n) (state_after posed n)))
+    option_map number_of (winning posed.settings (history_after posed n) (found_after posed n))
 
 -- the closures mean what the problem's do, and candidates are drawn by its seed, selectors and makers
-pub record Plays (m : Meaning) (seed : ℕ) (selectors : List Selector) (makers : List Made) (posed : Posed) : Type 0 where
+pub record Plays (m : Meaning) (seed : ℕ) (selectors : List Selector) (makers : List Made) (posed : Posed)
+    : Type 0 where
   pub means : m ≡ posed.meaning
   pub seed_is : seed ≡ posed.settings.seed
   pub selectors_are : selectors ≡ posed.settings.selectors
@@ -52,7 +62,7 @@ pub record SameTerms (old new : WorkerView) : Type 0 where
   pub seed : new.seed ≡ old.seed
   pub sizes : sizes_of new.director.plan ≡ sizes_of old.director.plan
 
--- the worker is at the state after so many steps, and knows the best one, which the state isn't better than, and the way back to it
+-- the worker is at the state after so many steps, and knows the best one, than which the state isn't better, and the way back
 pub record IsAt (posed : Posed) (n : ℕ) (worker : WorkerView) (best : BestSoFar) : Type 0 where
   pub stands : worker ≡ worker_on posed (state_after posed n)
   pub score : best.score ≡ state_score posed (best_after posed n)
@@ -87,7 +97,7 @@ pub record IsDecider (posed : Posed) (n : ℕ) (core : Core) : Type 0 where
   pub stands : StandsFor (terms posed) core events
   pub taken : IsTaken (terms posed) events
   pub begins : n < posed.settings.steps
-      → BeginsStep (terms posed) (desk (terms posed) events) (suc n) (history_of (game posed) (leg_after posed n))
+      → BeginsStep (terms posed) (desk (terms posed) events) (suc n) (history_after posed n)
 
 -- a search is in course: the core decides and the worker is at the state after so many steps
 pub record IsInCourse (core : Core) (worker : WorkerView) (best : BestSoFar) (posed : Posed) (n : ℕ) : Type 0 where

@@ -3,12 +3,12 @@ ghost use Rattle.plan_rules.specs.Range.{sizes_of};
 ghost use Rattle.search_core.specs.declared.event.Event.TheVariants as event;
 ghost use Rattle.search_core.specs.Desk.{choose_reply, desk};
 ghost use Rattle.search_core.specs.Keeps.{StandsFor};
-ghost use Rattle.search_core.specs.OneThread.{BeginsAt, JudgesAt, judge_events, step_events, winner_number};
+ghost use Rattle.search_core.specs.OneThread.{BeginsAt, JudgesAt, StandsWithFound, judge_events, step_events, winner_number};
 ghost use Rattle.plan_texts.specs.Asking.{AsksAt, found_in};
 
 use move_workers::{Kit, Worker};
 use plan_facts::Memory;
-use plan_moves::MoveMaker;
+use plan_moves::MoveMaker as Maker;
 use plan_rules::{Book, Judges, Rules};
 use search_core::{Core, Reply, decide, record_found};
 
@@ -27,10 +27,9 @@ fn judge_one<B: Book>(
     requires step { 1 ≤ step }
     requires at { JudgesAt core.old step number }
     ensures same { worker.new ≡ worker.old }
-    ensures stands { let makes = map (λ m. (⟦<dyn MoveMaker as MoveMaker>⟧ m.vtable).made m.value) kit.now.makers.now in
+    ensures stands { let makes = map (λ m. (⟦<dyn Maker as Maker>⟧ m.vtable).made m.value) kit.now.makers.now in
         let found = found_in B.meaning kit.now.seed kit.now.selectors.now makes step worker.old in
-        OnOk result ((at : JudgesAt core.old step number) →
-        StandsFor at.terms core.new (event.Judge 0 step number (found number) ∷ event.Claim 0 step number ∷ at.events)) }
+        OnOk result (StandsWithFound core.old step number (found number) core.new) }
 {
     let found = worker.judge(kit, step, number)?;
     record_found(core, step, number, found)
@@ -50,11 +49,11 @@ fn judge_batch<B: Book>(
     requires own { kit.now.rules.now.defs ≡ worker.old.director.rules }
     requires seed { kit.now.seed ≡ worker.old.seed }
     requires step { 1 ≤ step }
-    requires at { let makes = map (λ m. (⟦<dyn MoveMaker as MoveMaker>⟧ m.vtable).made m.value) kit.now.makers.now in
+    requires at { let makes = map (λ m. (⟦<dyn Maker as Maker>⟧ m.vtable).made m.value) kit.now.makers.now in
         AsksAt core.old step (found_in B.meaning kit.now.seed kit.now.selectors.now makes step worker.old) first count }
     requires fits { first + count < 2 ^ 32 }
     ensures same { worker.new ≡ worker.old }
-    ensures stands { let makes = map (λ m. (⟦<dyn MoveMaker as MoveMaker>⟧ m.vtable).made m.value) kit.now.makers.now in
+    ensures stands { let makes = map (λ m. (⟦<dyn Maker as Maker>⟧ m.vtable).made m.value) kit.now.makers.now in
         let found = found_in B.meaning kit.now.seed kit.now.selectors.now makes step worker.old in
         OnOk result ((at : AsksAt core.old step found first count) →
         StandsFor at.terms core.new (judge_events step found first count at.events)) }
@@ -79,15 +78,15 @@ fn judge_and_decide<B: Book>(
     requires own { kit.now.rules.now.defs ≡ worker.old.director.rules }
     requires seed { kit.now.seed ≡ worker.old.seed }
     requires step { 1 ≤ step }
-    requires at { let makes = map (λ m. (⟦<dyn MoveMaker as MoveMaker>⟧ m.vtable).made m.value) kit.now.makers.now in
+    requires at { let makes = map (λ m. (⟦<dyn Maker as Maker>⟧ m.vtable).made m.value) kit.now.makers.now in
         AsksAt core.old step (found_in B.meaning kit.now.seed kit.now.selectors.now makes step worker.old) first count }
     requires fits { first + count < 2 ^ 32 }
     ensures same { worker.new ≡ worker.old }
-    ensures reply { let makes = map (λ m. (⟦<dyn MoveMaker as MoveMaker>⟧ m.vtable).made m.value) kit.now.makers.now in
+    ensures reply { let makes = map (λ m. (⟦<dyn Maker as Maker>⟧ m.vtable).made m.value) kit.now.makers.now in
         let found = found_in B.meaning kit.now.seed kit.now.selectors.now makes step worker.old in
         IfOk result (λ reply. (at : AsksAt core.old step found first count) →
         reply ≡ choose_reply at.terms (desk at.terms (judge_events step found first count at.events))) }
-    ensures stands { let makes = map (λ m. (⟦<dyn MoveMaker as MoveMaker>⟧ m.vtable).made m.value) kit.now.makers.now in
+    ensures stands { let makes = map (λ m. (⟦<dyn Maker as Maker>⟧ m.vtable).made m.value) kit.now.makers.now in
         let found = found_in B.meaning kit.now.seed kit.now.selectors.now makes step worker.old in
         OnOk result ((at : AsksAt core.old step found first count) →
         StandsFor at.terms core.new (event.Choose step ∷ judge_events step found first count at.events)) }
@@ -111,10 +110,10 @@ pub fn choose<B: Book>(
     requires step { 1 ≤ step }
     requires begins { BeginsAt core.old step }
     ensures same { worker.new ≡ worker.old }
-    ensures winner { let makes = map (λ m. (⟦<dyn MoveMaker as MoveMaker>⟧ m.vtable).made m.value) kit.now.makers.now in
+    ensures winner { let makes = map (λ m. (⟦<dyn Maker as Maker>⟧ m.vtable).made m.value) kit.now.makers.now in
         let found = found_in B.meaning kit.now.seed kit.now.selectors.now makes step worker.old in
         IfOk result (λ winner. (at : BeginsAt core.old step) → winner ≡ winner_number at.terms at.history found) }
-    ensures stands { let makes = map (λ m. (⟦<dyn MoveMaker as MoveMaker>⟧ m.vtable).made m.value) kit.now.makers.now in
+    ensures stands { let makes = map (λ m. (⟦<dyn Maker as Maker>⟧ m.vtable).made m.value) kit.now.makers.now in
         let found = found_in B.meaning kit.now.seed kit.now.selectors.now makes step worker.old in
         OnOk result ((at : BeginsAt core.old step) →
         StandsFor at.terms core.new (step_events at.terms step found at.events)) }

@@ -1,35 +1,26 @@
 ghost use Rattle.std.specs.Prelude.{IfOk, OnOk};
 ghost use Rattle.plan_settings.specs.Settings.{IsInRange};
 ghost use Rattle.search_core.specs.declared.event.Event.TheVariants.{Cut, Start};
-ghost use Rattle.search_core.specs.Keeps.{HasRoomFor};
+ghost use Rattle.search_core.specs.Keeps.{HasNoFault};
 ghost use Rattle.plan_texts.specs.Begun.{BeginsLeg};
 ghost use Rattle.plan_texts.specs.Course.{TakesEvent};
 
 use plan_facts::Memory;
 use plan_scores::PlanScore;
 use plan_settings::Settings;
-use search_core::{Core, CoreFault, Event};
+use search_core::{Core, Event, take};
 use std::alloc::Global;
 
 /// How many candidates a step asks at once.
 pub const BUFFER: u32 = 64;
 
-/// Takes an event that isn't refused but for want of memory.
-fn take(core: &mut Core, event: Event) -> Result<(), Memory>
-    requires { HasRoomFor core.old event }
-    ensures { OnOk result (TakesEvent core.old event core.new) }
-{
-    match core.on(event) {
-        Ok(_) => Ok(()),
-        Err(_) => Err(Memory),
-    }
-}
-
-/// Cuts a boundary at which nothing was posted.
+/// Cuts a boundary that is due.
 pub fn cut(core: &mut Core, boundary: u32) -> Result<(), Memory>
+    requires { HasNoFault core.old (Cut boundary) }
     ensures { OnOk result (TakesEvent core.old (Cut boundary) core.new) }
 {
-    take(core, Event::Cut { boundary })
+    take(core, Event::Cut { boundary })?;
+    Ok(())
 }
 
 /// A core whose first leg starts with this score.

@@ -30,7 +30,7 @@ use construction::{Course, order_alone, place_alone};
 use move_workers::{Kit, Worker, director_alone};
 use plan_facts::{List, Memory, Plan};
 use plan_json::{Domain, Problem};
-use plan_moves::MoveMaker;
+use plan_moves::MoveMaker as Maker;
 use plan_ports::Sink;
 use plan_recalc::{Totals, totals_alone};
 use plan_reports::Line;
@@ -237,16 +237,17 @@ fn search<B: Book, K: Sink>(
 ) -> Result<Plan, PrintFault>
     requires judges { ⟦<Rules<B> as Judges>⟧.judges domain.now.rules director.weights (sizes_of director.plan) }
     requires in_range { IsInRange settings.now }
-    requires begun { let makes = map (λ m. (⟦<dyn MoveMaker as MoveMaker>⟧ m.vtable).made m.value) domain.now.makers.items in
-        (posed : Posed) × IsPosedBy B.meaning makes (domain_view domain.now) settings.now posed × IsBegun posed director core }
+    requires begun { let makes = map (λ m. (⟦<dyn Maker as Maker>⟧ m.vtable).made m.value) domain.now.makers.items in
+        (posed : Posed) × IsPosedBy B.meaning makes (domain_view domain.now) settings.now posed
+        × IsBegun posed director core }
     requires empty { buffer.old.items ≡ [] }
     ensures emptied { OnOk result (buffer.new.items ≡ []) }
-    ensures prints { let makes = map (λ m. (⟦<dyn MoveMaker as MoveMaker>⟧ m.vtable).made m.value) domain.now.makers.items in
+    ensures prints { let makes = map (λ m. (⟦<dyn Maker as Maker>⟧ m.vtable).made m.value) domain.now.makers.items in
         (posed : Posed) (start : SinkState)
         → IsPosedBy B.meaning makes (domain_view domain.now) settings.now posed
         → IsBegun posed director core → HasPrinted posed 0 start (K.state out.old)
         → Prints result (text_of posed (lines_after posed settings.now.steps)) start (K.state out.new) }
-    ensures best { let makes = map (λ m. (⟦<dyn MoveMaker as MoveMaker>⟧ m.vtable).made m.value) domain.now.makers.items in
+    ensures best { let makes = map (λ m. (⟦<dyn Maker as Maker>⟧ m.vtable).made m.value) domain.now.makers.items in
         IfOk result (λ plan. (posed : Posed)
         → IsPosedBy B.meaning makes (domain_view domain.now) settings.now posed
         → IsBegun posed director core → plan ≡ (best_after posed settings.now.steps).plan) }
@@ -292,7 +293,7 @@ pub fn solve<B: Book, K: Sink>(
 ) -> Result<(), PrintFault>
     requires judges { ⟦<Rules<B> as Judges>⟧.judges domain.now.rules problem.weights (sizes_of problem.plan) }
     requires in_range { IsInRange problem.settings }
-    ensures { let makes = map (λ m. (⟦<dyn MoveMaker as MoveMaker>⟧ m.vtable).made m.value) domain.now.makers.items in
+    ensures { let makes = map (λ m. (⟦<dyn Maker as Maker>⟧ m.vtable).made m.value) domain.now.makers.items in
         let posed = posed_in B.meaning makes (domain_view domain.now) (problem_view problem) in
         Prints result (solve_text posed) (K.state out.old) (K.state out.new) }
 {

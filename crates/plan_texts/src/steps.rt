@@ -17,7 +17,7 @@ use crate::printing::print_line;
 use crate::report::Report;
 use move_workers::{Kit, Worker};
 use plan_facts::Memory;
-use plan_moves::MoveMaker;
+use plan_moves::MoveMaker as Maker;
 use plan_ports::Sink;
 use plan_reports::Line;
 use plan_rules::{Book, Judges, Rules};
@@ -37,7 +37,7 @@ fn play<B: Book>(
     requires seed { kit.now.seed ≡ worker.old.seed }
     requires step { 1 ≤ step }
     ensures same { SameTerms worker.old worker.new }
-    ensures went_on { let makes = map (λ m. (⟦<dyn MoveMaker as MoveMaker>⟧ m.vtable).made m.value) kit.now.makers.now in
+    ensures went_on { let makes = map (λ m. (⟦<dyn Maker as Maker>⟧ m.vtable).made m.value) kit.now.makers.now in
         IfOk result (λ is_best. (posed : Posed) (n : ℕ) → step ≡ suc n
         → Plays B.meaning kit.now.seed kit.now.selectors.now makes posed → IsAt posed n worker.old best.old
         → winner ≡ winner_after posed n → WentOn posed n worker.new best.new is_best) }
@@ -67,6 +67,7 @@ fn do_step<B: Book, K: Sink>(
     requires own { kit.now.rules.now.defs ≡ worker.old.director.rules }
     requires seed { kit.now.seed ≡ worker.old.seed }
     requires step { 1 ≤ step }
+    requires within { step ≤ (terms_of core.old).settings.steps }
     requires ready { IsReady core.old step }
     requires quiet { IsQuiet core.old }
     requires empty { buffer.old.items ≡ [] }
@@ -75,12 +76,12 @@ fn do_step<B: Book, K: Sink>(
     ensures quiet { OnOk result (IsQuiet core.new) }
     ensures terms { OnOk result (terms_of core.new ≡ terms_of core.old) }
     ensures same { SameTerms worker.old worker.new }
-    ensures prints { let makes = map (λ m. (⟦<dyn MoveMaker as MoveMaker>⟧ m.vtable).made m.value) kit.now.makers.now in
+    ensures prints { let makes = map (λ m. (⟦<dyn Maker as Maker>⟧ m.vtable).made m.value) kit.now.makers.now in
         (posed : Posed) (n : ℕ) → step ≡ suc n → n < posed.settings.steps → IsReportOf posed report.now
         → Plays B.meaning kit.now.seed kit.now.selectors.now makes posed
         → IsInCourse core.old worker.old best.old posed n
         → Prints result (next_text posed n) (K.state out.old) (K.state out.new) }
-    ensures went_on { let makes = map (λ m. (⟦<dyn MoveMaker as MoveMaker>⟧ m.vtable).made m.value) kit.now.makers.now in
+    ensures went_on { let makes = map (λ m. (⟦<dyn Maker as Maker>⟧ m.vtable).made m.value) kit.now.makers.now in
         OnOk result ((posed : Posed) (n : ℕ) → step ≡ suc n → n < posed.settings.steps
         → Plays B.meaning kit.now.seed kit.now.selectors.now makes posed
         → IsInCourse core.old worker.old best.old posed n
@@ -119,13 +120,13 @@ pub fn do_steps<B: Book, K: Sink>(
     requires empty { buffer.old.items ≡ [] }
     ensures emptied { OnOk result (buffer.new.items ≡ []) }
     ensures same { SameTerms worker.old worker.new }
-    ensures prints { let makes = map (λ m. (⟦<dyn MoveMaker as MoveMaker>⟧ m.vtable).made m.value) kit.now.makers.now in
+    ensures prints { let makes = map (λ m. (⟦<dyn Maker as Maker>⟧ m.vtable).made m.value) kit.now.makers.now in
         (posed : Posed) (start : SinkState) → steps ≡ posed.settings.steps → IsReportOf posed report.now
         → Plays B.meaning kit.now.seed kit.now.selectors.now makes posed
         → IsInCourse core.old worker.old best.old posed 0
         → HasPrinted posed 0 start (K.state out.old)
         → Prints result (text_of posed (lines_after posed steps)) start (K.state out.new) }
-    ensures went_on { let makes = map (λ m. (⟦<dyn MoveMaker as MoveMaker>⟧ m.vtable).made m.value) kit.now.makers.now in
+    ensures went_on { let makes = map (λ m. (⟦<dyn Maker as Maker>⟧ m.vtable).made m.value) kit.now.makers.now in
         OnOk result ((posed : Posed) → steps ≡ posed.settings.steps
         → Plays B.meaning kit.now.seed kit.now.selectors.now makes posed
         → IsInCourse core.old worker.old best.old posed 0

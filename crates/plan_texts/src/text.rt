@@ -8,7 +8,7 @@ ghost use Rattle.plan_texts.specs.Posed.{posed_in};
 use crate::report::Report;
 use plan_facts::Memory;
 use plan_json::{Domain, Problem};
-use plan_moves::MoveMaker;
+use plan_moves::MoveMaker as Maker;
 use plan_recalc::totals_alone;
 use plan_reports::Line;
 use plan_rules::{Book, Judges, Rules};
@@ -21,7 +21,7 @@ pub fn score_text<B: Book>(
     problem: Problem,
 ) -> Result<Vec<u8>, Memory>
     requires { ⟦<Rules<B> as Judges>⟧.judges domain.now.rules problem.weights (sizes_of problem.plan) }
-    ensures { let makes = map (λ m. (⟦<dyn MoveMaker as MoveMaker>⟧ m.vtable).made m.value) domain.now.makers.items in
+    ensures { let makes = map (λ m. (⟦<dyn Maker as Maker>⟧ m.vtable).made m.value) domain.now.makers.items in
         let posed = posed_in B.meaning makes (domain_view domain.now) (problem_view problem) in
         IfOk result (λ text. text.items ≡ score_text posed) }
 {

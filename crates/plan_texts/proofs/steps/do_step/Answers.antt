@@ -1,8 +1,16 @@
 use Rattle.std.proofs.Common.{map}
 use Rattle.plan_texts.specs.Asking.{found_in}
 use Rattle.plan_texts.specs.Course.{next_text}
-use Rattle.plan_texts.proofs.Stepped.{course_goes_on, does_step, nothing_printed, on_ok, prints_step, ready_next, same_terms, still_quiet}
+use Rattle.plan_texts.proofs.Stepped.{course_goes_on, cut_is_due, does_step, nothing_printed, on_ok, prints_step, ready_next, same_terms, still_quiet}
 use Rattle.plan_texts.proofs.steps.do_step.Goals as goal
+
+pub cut-requires : goal.cut-requires
+cut-requires g c =
+    let core = c.args.core.now in
+    let makes = map (λ m. (goal.MoveMaker-dyn g (m.vtable, m.value)).made m.value) c.args.kit.now.makers.now in
+    let found = found_in g.B.Book.meaning c.args.kit.now.seed c.args.kit.now.selectors.now makes c.args.step c.args.worker.now in
+    cut_is_due core c.choose.new.core c.args.step found core.buffer_in_range.0 core.settings_in_range.select_limit.least
+    c.requires.step c.requires.quiet c.in_ok-winner.ensures.stands c.requires.ready c.requires.within
 
 pub returns-in_err-winner-clause-prints : goal.returns-in_err-winner-clause-prints
 returns-in_err-winner-clause-prints g c = λ posed n is more of plays course.

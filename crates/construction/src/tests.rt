@@ -8,8 +8,8 @@ ghost use Rattle.construction.specs.Standing.{IsAtRest};
 mod cases;
 
 use super::*;
-use cases::{CASES, Case, DIFFICULTY, LESSON, Lesson, PAST, ROOM, ROOMLESS, SHARED, SLOT, Wanted};
-use plan_facts::{ClassDef, List, Memory, Plan, Raw, Schema, Text, Value, VarDef};
+use cases::{CASES, Case, DIFFICULTY, LESSON, PAST, ROOM, ROOMLESS, SHARED, SLOT, Wanted};
+use plan_facts::{List, Memory, Plan, Schema, Value};
 use plan_moves::Touch;
 use plan_rules::{
     Book, Harder, Judges, Kept, Key, KeyBody, Part, Row, Rules, Steps, Test, TestBody, Weigh,
@@ -21,6 +21,8 @@ use std::marker::Brand;
 use std::process::Abort;
 use std::sync::ledger::{Blank, Ledger};
 use std::test::Fail;
+use test_plans::VarSketch::{Nullable, Var};
+use test_plans::{ClassSketch, plan_of, schema_of};
 
 /// Test 0 holds where the ids of a record and its room are more than 3 together, test 1 where two records have one room,
 /// test 2 where a record has none. The key is the remainder of the first record's id by 100.
@@ -68,69 +70,12 @@ fn is_past(row: &Row) -> bool
     3 < u64::from(id_at(row, 0)) + u64::from(room_at(row, 0))
 }
 
-fn variable(alloc: Global, name: &[u8], values: u8, nullable: bool) -> Result<VarDef, Memory> {
-    Ok(VarDef {
-        name: Text::from_slice(alloc, name)?,
-        values,
-        nullable,
-    })
-}
-
-fn class(alloc: Global, name: &[u8], vars: List<VarDef>) -> Result<ClassDef, Memory> {
-    Ok(ClassDef {
-        name: Text::from_slice(alloc, name)?,
-        fields: List::new(alloc),
-        vars,
-    })
-}
-
-/// Slots, rooms, and lessons, each with a slot and a room.
-fn schema(alloc: Global) -> Result<Schema, Fail> {
-    let mut vars = List::new(alloc);
-    vars.push(variable(alloc, b"slot", SLOT, false)?)?;
-    vars.push(variable(alloc, b"room", ROOM, true)?)?;
-    let mut classes = List::new(alloc);
-    classes.push(class(alloc, b"timeslot", List::new(alloc))?)?;
-    classes.push(class(alloc, b"place", List::new(alloc))?)?;
-    classes.push(class(alloc, b"lesson", vars)?)?;
-    Ok(Schema::build(classes)?)
-}
-
-/// Facts with the ids from 1 to `last`.
-fn numbered(alloc: Global, last: u32) -> Result<List<Raw>, Memory> {
-    let mut facts = List::new(alloc);
-    for id in 0..last {
-        facts.push(Raw {
-            id: id + 1,
-            fields: List::new(alloc),
-            values: List::new(alloc),
-            pinned: false,
-        })?;
-    }
-    Ok(facts)
-}
-
-fn lessons(alloc: Global, sketches: &[Lesson]) -> Result<List<Raw>, Memory> {
-    let mut facts = List::new(alloc);
-    for lesson in sketches {
-        facts.push(Raw {
-            id: lesson.id,
-            fields: List::new(alloc),
-            values: List::from_slice(alloc, &[lesson.slot, lesson.room])?,
-            pinned: lesson.pinned,
-        })?;
-    }
-    Ok(facts)
-}
-
-/// The plan of a case.
-fn plan(alloc: Global, schema: &Schema, case: &Case) -> Result<Plan, Fail> {
-    let mut lists = List::new(alloc);
-    lists.push(numbered(alloc, case.slots)?)?;
-    lists.push(numbered(alloc, case.rooms)?)?;
-    lists.push(lessons(alloc, case.lessons)?)?;
-    Ok(Plan::of(alloc, schema, lists)?)
-}
+/// Slots, rooms, and lessons, each with a slot, and a room or none.
+const CLASSES: &[ClassSketch] = &[
+    ClassSketch("timeslot", &[], &[]),
+    ClassSketch("place", &[], &[]),
+    ClassSketch("lesson", &[], &[Var("slot", SLOT), Nullable("room", ROOM)]),
+];
 
 /// Three tests, which keep their word.
 fn three_tests(
@@ -232,7 +177,7 @@ fn director<L: Ledger>(
     ensures rest { IfOk result (IsAtRest rules.now.defs) }
     ensures judges { IfOk result (λ d. ⟦<Rules<Rooms> as Judges>⟧.judges rules.now d.weights (sizes_of d.plan)) }
 {
-    let plan = plan(alloc, schema, case)?;
+    let plan = plan_of(alloc, schema, case.facts)?;
     let weights = List::from_slice(alloc, &[1, 1, 1])?;
     if !may_judge(alloc, rules, &plan, weights.as_slice())? {
         return Err("out of range".into());
@@ -419,7 +364,7 @@ fn plans_are_placed_as_was_worked_by_hand(rt: HostRuntime) -> Result<(), Fail> {
     let one = Test::new(PAST, past);
     let two = Test::new(SHARED, shared);
     let tests = three_tests(alloc, one, two, Test::new(ROOMLESS, roomless))?;
-    let schema = schema(alloc)?;
+    let schema = schema_of(alloc, CLASSES)?;
     let rules = rules(alloc, &schema, tests, Key::new(DIFFICULTY, difficulty))?;
     for case in CASES {
         expect_counted::<Brand>(&rt, alloc, &rules, &schema, case, Blank::new(1))?;

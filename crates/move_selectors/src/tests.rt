@@ -2,18 +2,15 @@ ghost use Rattle.std.specs.Prelude.{◌≡◌, [], ◌∷◌, Some, None, slice_
 ghost use Rattle.plan_moves.specs.Edits.{edit_of};
 
 use crate::{Pool, candidate};
-use plan_facts::{ClassDef, List, Memory, Plan, Raw, Schema, Text, VarDef};
+use plan_facts::{Memory, Plan, Schema};
 use plan_moves::{Edit, MoveMaker, Set};
 use plan_settings::Selector;
 use std::alloc::Global;
 use std::process::Abort;
 use std::test::Fail;
-
-/// A fact's id, and the values of its variables.
-type Sketch = (u32, &'static [Option<u32>]);
-
-/// A variable: its name, the class of its values, and whether it may stay null.
-type Var = (&'static str, u8, bool);
+use test_plans::FactSketch::{Entity, Fact, Pinned};
+use test_plans::VarSketch::{Nullable, Var};
+use test_plans::{ClassSketch, FactSketch, plan_of, schema_of};
 
 /// The id of an entity, a variable, and the value that it gets.
 type Change = (u32, u8, Option<u32>);
@@ -21,68 +18,24 @@ type Change = (u32, u8, Option<u32>);
 /// Eight words, and what the edit that they make changes; or that they make none.
 type Case = ([u32; 8], Option<&'static [Change]>);
 
-fn class_of(alloc: Global, name: &str, vars: &[Var]) -> Result<ClassDef, Memory> {
-    let mut var_defs = List::new(alloc);
-    for var in vars {
-        var_defs.push(VarDef {
-            name: Text::from_slice(alloc, var.0.as_bytes())?,
-            values: var.1,
-            nullable: var.2,
-        })?;
-    }
-    Ok(ClassDef {
-        name: Text::from_slice(alloc, name.as_bytes())?,
-        fields: List::new(alloc),
-        vars: var_defs,
-    })
-}
-
-/// The facts with ids from this one on are pinned; a test that pins none takes the greatest id.
-const NONE_PINNED: u32 = u32::MAX;
-
-fn list_of(alloc: Global, sketches: &[Sketch], pinned_from: u32) -> Result<List<Raw>, Memory> {
-    let mut raws = List::new(alloc);
-    for sketch in sketches {
-        raws.push(Raw {
-            id: sketch.0,
-            fields: List::new(alloc),
-            values: List::from_slice(alloc, sketch.1)?,
-            pinned: sketch.0 >= pinned_from,
-        })?;
-    }
-    Ok(raws)
-}
-
 /// Slots, rooms, and lessons with a slot and a room.
-fn lessons(alloc: Global) -> Result<Schema, Fail> {
-    let vars = [("slot", 0, false), ("room", 1, false)];
-    let mut classes = List::new(alloc);
-    classes.push(class_of(alloc, "slot", &[])?)?;
-    classes.push(class_of(alloc, "room", &[])?)?;
-    classes.push(class_of(alloc, "lesson", &vars)?)?;
-    Ok(Schema::build(classes)?)
-}
+const LESSONS: &[ClassSketch] = &[
+    ClassSketch("slot", &[], &[]),
+    ClassSketch("room", &[], &[]),
+    ClassSketch("lesson", &[], &[Var("slot", 0), Var("room", 1)]),
+];
 
-/// Employees, and shifts with a worker, who may stay null or not.
-fn shifts(alloc: Global, nullable: bool) -> Result<Schema, Fail> {
-    let mut classes = List::new(alloc);
-    classes.push(class_of(alloc, "employee", &[])?)?;
-    classes.push(class_of(alloc, "shift", &[("worker", 0, nullable)])?)?;
-    Ok(Schema::build(classes)?)
-}
+/// Employees, and shifts with a worker.
+const SHIFTS: &[ClassSketch] = &[
+    ClassSketch("employee", &[], &[]),
+    ClassSketch("shift", &[], &[Var("worker", 0)]),
+];
 
-fn plan_of<'a>(
-    alloc: Global,
-    schema: &Schema,
-    classes: &'a [&'a [Sketch]],
-    pinned_from: u32,
-) -> Result<Plan, Fail> {
-    let mut lists = List::new(alloc);
-    for sketches in classes {
-        lists.push(list_of(alloc, sketches, pinned_from)?)?;
-    }
-    Ok(Plan::of(alloc, schema, lists)?)
-}
+/// Employees, and shifts with a worker or none.
+const OPEN_SHIFTS: &[ClassSketch] = &[
+    ClassSketch("employee", &[], &[]),
+    ClassSketch("shift", &[], &[Nullable("worker", 0)]),
+];
 
 fn expect_sets(rt: &impl Abort, edit: &Edit, changes: &[Change]) {
     let sets = edit.sets();
@@ -124,26 +77,24 @@ const TWICE: [u32; 8] = [
     1959725, 1734584660, 1651091372, 1676425974, 2293775675, 4183126587, 2306262737, 2130298245,
 ];
 
+/// Slots, rooms, and lessons of which two have neither.
+const COURSE: &[&[FactSketch]] = &[
+    &[Fact(1, &[]), Fact(2, &[]), Fact(3, &[])],
+    &[Fact(1, &[]), Fact(2, &[]), Fact(3, &[])],
+    &[
+        Entity(1, &[], &[Some(3), Some(3)]),
+        Entity(3, &[], &[None, None]),
+        Entity(8, &[], &[Some(1), Some(3)]),
+        Entity(20, &[], &[None, None]),
+        Entity(31, &[], &[Some(3), Some(2)]),
+    ],
+];
+
 #[test]
 fn one_variable_of_a_lesson_changes(rt: HostRuntime) -> Result<(), Fail> {
     let alloc = rt.alloc();
-    let schema = lessons(alloc)?;
-    let plan = plan_of(
-        alloc,
-        &schema,
-        &[
-            &[(1, &[]), (2, &[]), (3, &[])],
-            &[(1, &[]), (2, &[]), (3, &[])],
-            &[
-                (1, &[Some(3), Some(3)]),
-                (3, &[None, None]),
-                (8, &[Some(1), Some(3)]),
-                (20, &[None, None]),
-                (31, &[Some(3), Some(2)]),
-            ],
-        ],
-        NONE_PINNED,
-    )?;
+    let schema = schema_of(alloc, LESSONS)?;
+    let plan = plan_of(alloc, &schema, COURSE)?;
     let cases: &[Case] = &[
         (FAR, Some(&[(31, 1, Some(1))])),
         (NEAR, Some(&[(1, 1, Some(1))])),
@@ -153,19 +104,19 @@ fn one_variable_of_a_lesson_changes(rt: HostRuntime) -> Result<(), Fail> {
 }
 
 /// Slots, rooms, and lessons of which some have no slot or no room.
-const SCHOOL: &[&[Sketch]] = &[
-    &[(26, &[]), (36, &[]), (38, &[])],
-    &[(1, &[]), (2, &[]), (3, &[])],
+const SCHOOL: &[&[FactSketch]] = &[
+    &[Fact(26, &[]), Fact(36, &[]), Fact(38, &[])],
+    &[Fact(1, &[]), Fact(2, &[]), Fact(3, &[])],
     &[
-        (1, &[Some(36), Some(3)]),
-        (2, &[Some(36), Some(1)]),
-        (3, &[None, Some(2)]),
-        (4, &[Some(38), Some(2)]),
-        (5, &[None, None]),
-        (6, &[None, None]),
-        (7, &[Some(38), Some(2)]),
-        (8, &[Some(38), Some(2)]),
-        (9, &[Some(38), None]),
+        Entity(1, &[], &[Some(36), Some(3)]),
+        Entity(2, &[], &[Some(36), Some(1)]),
+        Entity(3, &[], &[None, Some(2)]),
+        Entity(4, &[], &[Some(38), Some(2)]),
+        Entity(5, &[], &[None, None]),
+        Entity(6, &[], &[None, None]),
+        Entity(7, &[], &[Some(38), Some(2)]),
+        Entity(8, &[], &[Some(38), Some(2)]),
+        Entity(9, &[], &[Some(38), None]),
     ],
 ];
 
@@ -220,8 +171,8 @@ const PILLAR_SWAPS: &[Case] = &[
 #[test]
 fn lessons_and_pillars_of_lessons_swap(rt: HostRuntime) -> Result<(), Fail> {
     let alloc = rt.alloc();
-    let schema = lessons(alloc)?;
-    let plan = plan_of(alloc, &schema, SCHOOL, NONE_PINNED)?;
+    let schema = schema_of(alloc, LESSONS)?;
+    let plan = plan_of(alloc, &schema, SCHOOL)?;
     expect(&rt, alloc, &schema, &plan, &[Selector::Swap], SWAPS)?;
     expect(
         &rt,
@@ -234,15 +185,15 @@ fn lessons_and_pillars_of_lessons_swap(rt: HostRuntime) -> Result<(), Fail> {
 }
 
 /// Employees, and shifts of which one has no worker.
-const WARD: &[&[Sketch]] = &[
-    &[(1, &[]), (2, &[])],
+const WARD: &[&[FactSketch]] = &[
+    &[Fact(1, &[]), Fact(2, &[])],
     &[
-        (6, &[Some(1)]),
-        (10, &[Some(1)]),
-        (18, &[Some(1)]),
-        (25, &[Some(2)]),
-        (32, &[Some(1)]),
-        (38, &[None]),
+        Entity(6, &[], &[Some(1)]),
+        Entity(10, &[], &[Some(1)]),
+        Entity(18, &[], &[Some(1)]),
+        Entity(25, &[], &[Some(2)]),
+        Entity(32, &[], &[Some(1)]),
+        Entity(38, &[], &[None]),
     ],
 ];
 
@@ -286,16 +237,16 @@ const PICKS: &[Case] = &[
 #[test]
 fn the_first_word_picks_a_selector(rt: HostRuntime) -> Result<(), Fail> {
     let alloc = rt.alloc();
-    let schema = shifts(alloc, false)?;
-    let plan = plan_of(alloc, &schema, WARD, NONE_PINNED)?;
+    let schema = schema_of(alloc, SHIFTS)?;
+    let plan = plan_of(alloc, &schema, WARD)?;
     expect(&rt, alloc, &schema, &plan, SWAP_OR_PILLAR, PICKS)
 }
 
 #[test]
 fn nothing_is_picked_of_an_empty_list(rt: HostRuntime) -> Result<(), Fail> {
     let alloc = rt.alloc();
-    let schema = shifts(alloc, false)?;
-    let plan = plan_of(alloc, &schema, &[&[], &[]], NONE_PINNED)?;
+    let schema = schema_of(alloc, SHIFTS)?;
+    let plan = plan_of(alloc, &schema, &[&[], &[]])?;
     for selector in [
         Selector::Change,
         Selector::Swap,
@@ -316,7 +267,16 @@ const FIRST: [u32; 8] = [
 const SECOND: [u32; 8] = [0x7c5941da, 0x8d485751, 0x3fe02477, 0x374ad8b8, 0, 0, 0, 0];
 
 /// Two employees, and two shifts of the first.
-const DUTY: &[&[Sketch]] = &[&[(1, &[]), (2, &[])], &[(1, &[Some(1)]), (2, &[Some(1)])]];
+const DUTY: &[&[FactSketch]] = &[
+    &[Fact(1, &[]), Fact(2, &[])],
+    &[Entity(1, &[], &[Some(1)]), Entity(2, &[], &[Some(1)])],
+];
+
+/// Two employees, and two shifts of the first, of which the second is pinned.
+const HALF_PINNED: &[&[FactSketch]] = &[
+    &[Fact(1, &[]), Fact(2, &[])],
+    &[Entity(1, &[], &[Some(1)]), Pinned(2, &[], &[Some(1)])],
+];
 
 /// What is made where the second shift is pinned: the first alone may move, and is a pillar by itself.
 const PINNED: &[(Selector, &[Case])] = &[
@@ -335,8 +295,8 @@ const PINNED: &[(Selector, &[Case])] = &[
 #[test]
 fn a_pinned_entity_is_never_picked(rt: HostRuntime) -> Result<(), Fail> {
     let alloc = rt.alloc();
-    let schema = shifts(alloc, false)?;
-    let plan = plan_of(alloc, &schema, DUTY, 2)?;
+    let schema = schema_of(alloc, SHIFTS)?;
+    let plan = plan_of(alloc, &schema, HALF_PINNED)?;
     for (selector, cases) in PINNED {
         expect(&rt, alloc, &schema, &plan, &[*selector], cases)?;
     }
@@ -344,14 +304,14 @@ fn a_pinned_entity_is_never_picked(rt: HostRuntime) -> Result<(), Fail> {
 }
 
 /// Two employees, and shifts of which two have no worker.
-const OPEN: &[&[Sketch]] = &[
-    &[(1, &[]), (2, &[])],
+const OPEN: &[&[FactSketch]] = &[
+    &[Fact(1, &[]), Fact(2, &[])],
     &[
-        (1, &[Some(2)]),
-        (2, &[None]),
-        (3, &[Some(2)]),
-        (4, &[None]),
-        (5, &[Some(1)]),
+        Entity(1, &[], &[Some(2)]),
+        Entity(2, &[], &[None]),
+        Entity(3, &[], &[Some(2)]),
+        Entity(4, &[], &[None]),
+        Entity(5, &[], &[Some(1)]),
     ],
 ];
 
@@ -400,8 +360,8 @@ const NULLABLE: &[(Selector, &[Case])] = &[
 #[test]
 fn null_is_a_choice_and_makes_a_pillar(rt: HostRuntime) -> Result<(), Fail> {
     let alloc = rt.alloc();
-    let schema = shifts(alloc, true)?;
-    let plan = plan_of(alloc, &schema, OPEN, NONE_PINNED)?;
+    let schema = schema_of(alloc, OPEN_SHIFTS)?;
+    let plan = plan_of(alloc, &schema, OPEN)?;
     for (selector, cases) in NULLABLE {
         expect(&rt, alloc, &schema, &plan, &[*selector], cases)?;
     }
@@ -414,8 +374,8 @@ const FIRST_PILLAR: [u32; 8] = [0, 0, 0, 0, LAST, 0, 0, 0];
 #[test]
 fn pillars_are_found_anew_after_an_edit(rt: HostRuntime) -> Result<(), Fail> {
     let alloc = rt.alloc();
-    let schema = shifts(alloc, false)?;
-    let mut plan = plan_of(alloc, &schema, DUTY, NONE_PINNED)?;
+    let schema = schema_of(alloc, SHIFTS)?;
+    let mut plan = plan_of(alloc, &schema, DUTY)?;
     let mut pool = Pool::of(alloc, &plan)?;
     let mut edit = Edit::new(alloc);
     let selectors = [Selector::PillarChange];
@@ -484,8 +444,8 @@ fn cleared(id: u32, var: u8) -> Set
 #[test]
 fn the_second_word_picks_a_maker(rt: HostRuntime) -> Result<(), Fail> {
     let alloc = rt.alloc();
-    let schema = shifts(alloc, false)?;
-    let plan = plan_of(alloc, &schema, &[&[], &[]], NONE_PINNED)?;
+    let schema = schema_of(alloc, SHIFTS)?;
+    let plan = plan_of(alloc, &schema, &[&[], &[]])?;
     let first: Box<dyn MoveMaker> = Box::new(alloc, Clears { var: 4 })?;
     let second: Box<dyn MoveMaker> = Box::new(alloc, Clears { var: 5 })?;
     let makers = [first, second];

@@ -1,9 +1,10 @@
 -- The limits of a problem: how many combinations of values, rows and score it may lead to.
-use Rattle.std.specs.Prelude.{ℕ, ◌+◌, ◌*◌, Bool, nat_lt, find, List, [], fold, length, Option, option_map, slice_get, if◌then◌else◌}
-use Rattle.std.specs.Option.{option_or, option_map_or}
+use Rattle.std.specs.Prelude.{ℕ, ◌+◌, ◌*◌, Bool, nat_lt, find, List, [], fold, length, Option, option_map, if◌then◌else◌}
+use Rattle.std.specs.Option.{option_or}
 use Rattle.plan_facts.specs.Plan.{PlanView, ids_of}
 use Rattle.plan_facts.specs.declared.record.ClassDef.{ClassDef}
 use Rattle.plan_facts.specs.declared.record.VarDef.{VarDef}
+use Rattle.plan_rules.specs.Named.{rule_name}
 use Rattle.plan_rules.specs.Range.{range_fault_of, sizes_of}
 use Rattle.plan_rules.specs.declared.rule.RuleDef.{RuleDef}
 use Rattle.plan_rules.specs.declared.fault.RangeFault.{RangeFault}
@@ -27,10 +28,6 @@ is_wide plan class = nat_lt 65536 (combination_count plan class)
 -- the first class whose entities could take too many combinations
 abbrev pub product_fault : List ClassDef → PlanView → Option ProblemFault
 product_fault classes plan = option_map (λ class. RangeProduct class.name) (find (is_wide plan) classes)
-
--- the name of a rule
-abbrev pub rule_name : List RuleDef → ℕ → List ℕ
-rule_name rules rule = option_map_or (λ r. r.name) (slice_get rules rule) []
 
 -- a fault of the range of rows and score, by the rule's name
 abbrev pub named_range_fault : List RuleDef → RangeFault → ProblemFault

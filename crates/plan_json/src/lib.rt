@@ -8,7 +8,7 @@ mod read;
 
 pub use domain::Domain;
 pub use problem::Problem;
-pub use read::read_problem;
+pub use read::{BYTE_LIMIT, read_problem};
 
 #[cfg(test)]
 mod tests;

@@ -1,7 +1,8 @@
 ghost use Rattle.std.specs.Prelude.{◌≡◌, ◌≤◌, None, OnOk, IfOk, find, length, option_copied, option_map};
 ghost use Rattle.plan_rules.specs.Range.{sizes_of};
 ghost use Rattle.problem_faults.specs.Refusals.{RefusesFor};
-ghost use Rattle.plan_json.specs.Limits.{choice_count, is_wide, range_fault_in, limits_fault, named_range_fault, rule_name};
+ghost use Rattle.plan_json.specs.Limits.{choice_count, is_wide, range_fault_in, limits_fault, named_range_fault};
+ghost use Rattle.plan_rules.specs.Named.{rule_name};
 ghost use Rattle.plan_json.specs.Seen.{domain_view};
 
 use crate::domain::Domain;

@@ -19,7 +19,7 @@ use serde_json::Value;
 use std::alloc::Global;
 
 /// The most bytes that a problem may have.
-const BYTE_LIMIT: usize = 67_108_864;
+pub const BYTE_LIMIT: usize = 67_108_864;
 
 /// The member `facts` of a root that has it.
 fn facts_of(root: &Value) -> &Value

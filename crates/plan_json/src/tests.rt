@@ -1,7 +1,8 @@
 ghost use Rattle.std.specs.Prelude.{◌≡◌, IfOk};
 
 use super::*;
-use plan_facts::{ClassDef, FieldDef, Kind, List, Memory, Schema, Text, VarDef, is_name};
+use plan_facts::Kind::{Name, Number};
+use plan_facts::{Kind, List, Memory, Text, is_name};
 use plan_rules::{Book, Head, RuleDef, Rules};
 use plan_scores::Level;
 use plan_settings::Construction;
@@ -9,6 +10,8 @@ use problem_faults::{ProblemFault, write_refusal};
 use std::alloc::Global;
 use std::process::Abort;
 use std::test::Fail;
+use test_plans::VarSketch::{Nullable, Var};
+use test_plans::{ClassSketch, schema_of};
 
 const LESSON: u8 = 2;
 
@@ -22,47 +25,29 @@ impl Book for Silent {
     ghost meaning = { record { test_of = λ _ _. false; key_of = λ _ _. pos 0; weight_of = λ _ _. 0 } };
 }
 
-/// A class with these fields and these variables, each with its value class and whether it may stay null.
-fn class_of(
-    alloc: Global,
-    name: &[u8],
-    fields: &[(&[u8], Kind)],
-    vars: &[(&[u8], u8, bool)],
-) -> Result<ClassDef, Memory> {
-    let mut class = ClassDef {
-        name: Text::from_slice(alloc, name)?,
-        fields: List::new(alloc),
-        vars: List::new(alloc),
-    };
-    for (name, kind) in fields {
-        let name = Text::from_slice(alloc, name)?;
-        class.fields.push(FieldDef { name, kind: *kind })?;
-    }
-    for (name, values, nullable) in vars {
-        let name = Text::from_slice(alloc, name)?;
-        let (values, nullable) = (*values, *nullable);
-        class.vars.push(VarDef {
-            name,
-            values,
-            nullable,
-        })?;
-    }
-    Ok(class)
-}
+const TIMESLOT: ClassSketch = ClassSketch("timeslot", &[("day", Number)], &[]);
 
-/// Timeslots, rooms, and lessons that have a slot, which may stay null or not, and a room.
-fn classes(alloc: Global, nullable: bool) -> Result<List<ClassDef>, Memory> {
-    let mut classes = List::new(alloc);
-    classes.push(class_of(alloc, b"timeslot", &[(b"day", Kind::Number)], &[])?)?;
-    classes.push(class_of(alloc, b"room", &[(b"capacity", Kind::Number)], &[])?)?;
-    classes.push(class_of(
-        alloc,
-        b"lesson",
-        &[(b"subject", Kind::Name), (b"size", Kind::Number)],
-        &[(b"slot", 0, nullable), (b"room", 1, false)],
-    )?)?;
-    Ok(classes)
-}
+const ROOM: ClassSketch = ClassSketch("room", &[("capacity", Number)], &[]);
+
+const LESSON_FIELDS: &[(&str, Kind)] = &[("subject", Name), ("size", Number)];
+
+/// Timeslots, rooms, and lessons that have a slot and a room.
+const TIMETABLE: &[ClassSketch] = &[
+    TIMESLOT,
+    ROOM,
+    ClassSketch("lesson", LESSON_FIELDS, &[Var("slot", 0), Var("room", 1)]),
+];
+
+/// The same, but a lesson's slot may stay null.
+const OPEN: &[ClassSketch] = &[
+    TIMESLOT,
+    ROOM,
+    ClassSketch(
+        "lesson",
+        LESSON_FIELDS,
+        &[Nullable("slot", 0), Var("room", 1)],
+    ),
+];
 
 /// One rule, which every placed lesson matches, of weight 1.
 fn rules(alloc: Global) -> Result<List<RuleDef>, Memory> {
@@ -79,13 +64,13 @@ fn rules(alloc: Global) -> Result<List<RuleDef>, Memory> {
     Ok(rules)
 }
 
-/// A domain of this name, in which a slot may stay null or not.
-fn domain(alloc: Global, name: &[u8], nullable: bool) -> Result<Domain<Silent>, Fail> {
+/// A domain of this name with these classes.
+fn domain(alloc: Global, name: &[u8], classes: &[ClassSketch]) -> Result<Domain<Silent>, Fail> {
     let name = Text::from_slice(alloc, name)?;
     if !is_name(name.as_slice()) {
         return Err("no name".into());
     }
-    let schema = Schema::build(classes(alloc, nullable)?)?;
+    let schema = schema_of(alloc, classes)?;
     let rules = Rules::build(
         alloc,
         &schema,
@@ -101,8 +86,8 @@ fn domain(alloc: Global, name: &[u8], nullable: bool) -> Result<Domain<Silent>, 
 /// Two domains, of which most problems name the second.
 fn domains(alloc: Global) -> Result<Vec<Domain<Silent>>, Fail> {
     let mut domains = Vec::new(alloc);
-    domains.push(domain(alloc, b"open", true)?)?;
-    domains.push(domain(alloc, b"timetable", false)?)?;
+    domains.push(domain(alloc, b"open", OPEN)?)?;
+    domains.push(domain(alloc, b"timetable", TIMETABLE)?)?;
     Ok(domains)
 }
 

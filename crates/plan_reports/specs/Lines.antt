@@ -8,6 +8,7 @@ use Rattle.plan_scores.specs.Text.{score_text, plan_score_text}
 use Rattle.plan_facts.specs.declared.record.ClassDef.{ClassDef}
 use Rattle.plan_facts.specs.declared.record.VarDef.{VarDef}
 use Rattle.plan_rules.specs.declared.rule.RuleDef.{RuleDef}
+use Rattle.plan_rules.specs.Named.{rule_name}
 use Rattle.plan_rules.specs.declared.row.Part.{Part}
 use Rattle.plan_rules.specs.declared.row.Part.TheVariants.{Fact, Num}
 use Rattle.plan_reports.specs.declared.line.Line.{Line}
@@ -20,10 +21,6 @@ class_name classes class = option_map_or (λ c. c.name) (slice_get classes class
 -- the variables of a class
 abbrev pub variables_of : List ClassDef → ℕ → List VarDef
 variables_of classes class = option_map_or (λ c. c.vars) (slice_get classes class) []
-
--- the name of a rule
-abbrev pub rule_name : List RuleDef → ℕ → List ℕ
-rule_name rules rule = option_map_or (λ r. r.name) (slice_get rules rule) []
 
 -- a fact: its class and id, as in lesson#1
 abbrev pub fact_text : List ClassDef → ℕ → ℕ → List ℕ

@@ -1,6 +1,7 @@
 ghost use Rattle.std.specs.Prelude.{◌≡◌, decimal};
 ghost use Rattle.plan_reports.specs.Puts.{Puts};
-ghost use Rattle.plan_reports.specs.Lines.{class_name, variables_of, rule_name, fact_text, value_text, variable_text, variables_text, part_text, row_text, entity_text};
+ghost use Rattle.plan_rules.specs.Named.{rule_name};
+ghost use Rattle.plan_reports.specs.Lines.{class_name, variables_of, fact_text, value_text, variable_text, variables_text, part_text, row_text, entity_text};
 ghost use Rattle.plan_scores.specs.Text.{score_text, plan_score_text};
 
 use itoa::Buffer;

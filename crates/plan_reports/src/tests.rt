@@ -1,43 +1,25 @@
 use super::*;
-use plan_facts::{ClassDef, FieldDef, Kind, List, Memory, Rec, Schema, Text, VarDef};
+use plan_facts::{Kind, List, Memory, Rec, Text};
 use plan_rules::{Head, Part, Row, RuleDef};
 use plan_scores::{Level, PlanScore, Score};
 use std::alloc::Global;
 use std::test::Fail;
+use test_plans::VarSketch::Var;
+use test_plans::{ClassSketch, schema_of};
 
 fn text(alloc: Global, words: &str) -> Result<Text, Memory> {
     Text::from_slice(alloc, words.as_bytes())
 }
 
-fn class(alloc: Global, name: &str, vars: &[(&str, u8)]) -> Result<ClassDef, Memory> {
-    let mut list = List::new(alloc);
-    for (name, values) in vars {
-        list.push(VarDef {
-            name: text(alloc, name)?,
-            values: *values,
-            nullable: false,
-        })?;
-    }
-    let mut fields = List::new(alloc);
-    fields.push(FieldDef {
-        name: text(alloc, "size")?,
-        kind: Kind::Number,
-    })?;
-    Ok(ClassDef {
-        name: text(alloc, name)?,
-        fields,
-        vars: list,
-    })
-}
+/// A size, which each class has.
+const SIZE: &[(&str, Kind)] = &[("size", Kind::Number)];
 
 /// Timeslots, rooms and lessons, which have a slot and a room.
-fn schema(alloc: Global) -> Result<Schema, Fail> {
-    let mut classes = List::new(alloc);
-    classes.push(class(alloc, "timeslot", &[])?)?;
-    classes.push(class(alloc, "room", &[])?)?;
-    classes.push(class(alloc, "lesson", &[("slot", 0), ("room", 1)])?)?;
-    Ok(Schema::build(classes)?)
-}
+const CLASSES: &[ClassSketch] = &[
+    ClassSketch("timeslot", SIZE, &[]),
+    ClassSketch("room", SIZE, &[]),
+    ClassSketch("lesson", SIZE, &[Var("slot", 0), Var("room", 1)]),
+];
 
 fn rules(alloc: Global) -> Result<List<RuleDef>, Memory> {
     let mut rules = List::new(alloc);
@@ -132,7 +114,7 @@ fn lines(alloc: Global) -> Result<List<Line>, Memory> {
 #[test]
 fn each_line_has_its_text(rt: HostRuntime) -> Result<(), Fail> {
     let alloc = rt.alloc();
-    let schema = schema(alloc)?;
+    let schema = schema_of(alloc, CLASSES)?;
     let rules = rules(alloc)?;
     let mut out = Vec::new(alloc);
     for line in lines(alloc)?.as_slice() {

@@ -9,11 +9,8 @@ ghost use Rattle.problem_records.specs.Shapes.{is_of_kind, has_field, is_choice,
 ghost use Rattle.plan_facts.specs.Schema.{member_names};
 
 use json_values::{has_other, items, member, number_within};
-use plan_facts::{ClassDef, FieldDef, Kind, VarDef};
+use plan_facts::{ClassDef, FieldDef, ID_LIMIT, Kind, VarDef};
 use serde_json::Value;
-
-/// The greatest id that a record may have.
-const ID_LIMIT: u32 = 1_000_000_000;
 
 /// Whether the class has variables, so that its records are entities.
 pub fn has_entities(class: &ClassDef) -> bool

@@ -1,11 +1,14 @@
 use super::*;
 use json_values::read_value;
-use plan_facts::{ClassDef, FieldDef, Kind, List, Memory, Schema, Text, VarDef};
+use plan_facts::Kind::{Name, Number};
+use plan_facts::{Kind, Memory, Schema, Text};
 use problem_faults::ProblemFault;
 use std::alloc::Global;
 use std::process::Abort;
 use std::str;
 use std::test::Fail;
+use test_plans::VarSketch::Var;
+use test_plans::{ClassSketch, schema_of};
 
 const TIMESLOT: u8 = 0;
 
@@ -15,58 +18,28 @@ const LESSON: u8 = 2;
 
 const BLOCK: u8 = 3;
 
-/// Adds fields of one kind to a class.
-fn add_fields(
-    class: &mut ClassDef,
-    alloc: Global,
-    names: &[&str],
-    kind: Kind,
-) -> Result<(), Memory> {
-    for name in names {
-        let name = Text::from_slice(alloc, name.as_bytes())?;
-        class.fields.push(FieldDef { name, kind })?;
-    }
-    Ok(())
-}
-
-/// A class with these name fields, then these number fields, and these variables.
-fn class_of(
-    alloc: Global,
-    name: &str,
-    names: &[&str],
-    numbers: &[&str],
-    vars: &[(&str, u8)],
-) -> Result<ClassDef, Memory> {
-    let mut class = ClassDef {
-        name: Text::from_slice(alloc, name.as_bytes())?,
-        fields: List::new(alloc),
-        vars: List::new(alloc),
-    };
-    add_fields(&mut class, alloc, names, Kind::Name)?;
-    add_fields(&mut class, alloc, numbers, Kind::Number)?;
-    for (name, values) in vars {
-        let name = Text::from_slice(alloc, name.as_bytes())?;
-        let var = VarDef {
-            name,
-            values: *values,
-            nullable: false,
-        };
-        class.vars.push(var)?;
-    }
-    Ok(class)
-}
-
 /// Timeslots, rooms, lessons that have a slot and a room, and blocks of teachers.
-fn timetable(alloc: Global) -> Result<Schema, Fail> {
-    let mut classes = List::new(alloc);
-    classes.push(class_of(alloc, "timeslot", &[], &["day", "start", "end"], &[])?)?;
-    classes.push(class_of(alloc, "room", &[], &["capacity"], &[])?)?;
-    let names = ["subject", "teacher", "group"];
-    let vars = [("slot", TIMESLOT), ("room", ROOM)];
-    classes.push(class_of(alloc, "lesson", &names, &["size"], &vars)?)?;
-    classes.push(class_of(alloc, "block", &["teacher"], &["day"], &[])?)?;
-    Ok(Schema::build(classes)?)
-}
+const TIMETABLE: &[ClassSketch] = &[
+    ClassSketch(
+        "timeslot",
+        &[("day", Number), ("start", Number), ("end", Number)],
+        &[],
+    ),
+    ClassSketch("room", &[("capacity", Number)], &[]),
+    ClassSketch(
+        "lesson",
+        LESSON_FIELDS,
+        &[Var("slot", TIMESLOT), Var("room", ROOM)],
+    ),
+    ClassSketch("block", &[("teacher", Name), ("day", Number)], &[]),
+];
+
+const LESSON_FIELDS: &[(&str, Kind)] = &[
+    ("subject", Name),
+    ("teacher", Name),
+    ("group", Name),
+    ("size", Number),
+];
 
 fn text_of(text: &Text) -> Result<&str, Fail> {
     Ok(str::from_utf8(text.as_slice())?)
@@ -232,7 +205,7 @@ fn try_facts(
 
 #[test]
 fn refuses_the_first_bad_thing(rt: HostRuntime) -> Result<(), Fail> {
-    let schema = timetable(rt.alloc())?;
+    let schema = schema_of(rt.alloc(), TIMETABLE)?;
     for (facts, want) in FACTS {
         try_facts(&rt, rt.alloc(), &schema, facts, want)?;
     }
@@ -259,7 +232,7 @@ fn with_lessons(alloc: Global, lessons: &[(&[u8], &[u8])]) -> Result<Vec<u8>, Me
 
 #[test]
 fn refuses_the_first_bad_lesson(rt: HostRuntime) -> Result<(), Fail> {
-    let schema = timetable(rt.alloc())?;
+    let schema = schema_of(rt.alloc(), TIMETABLE)?;
     for (lessons, want) in LESSONS {
         let facts = with_lessons(rt.alloc(), lessons)?;
         try_facts(&rt, rt.alloc(), &schema, &facts, want)?;
@@ -288,7 +261,7 @@ fn with_rooms(alloc: Global, count: u32) -> Result<Vec<u8>, Memory> {
 
 #[test]
 fn reads_as_many_records_as_a_plan_may_have(rt: HostRuntime) -> Result<(), Fail> {
-    let schema = timetable(rt.alloc())?;
+    let schema = schema_of(rt.alloc(), TIMETABLE)?;
     for (count, want) in [(100_000, "read"), (100_001, "too_many_facts")] {
         let facts = with_rooms(rt.alloc(), count)?;
         try_facts(&rt, rt.alloc(), &schema, &facts, want)?;
@@ -312,7 +285,7 @@ const RECORDS: [(u8, u32, &[i64], &[Option<u32>], bool); 4] = [
 
 #[test]
 fn numbers_names_in_the_order_of_the_facts(rt: HostRuntime) -> Result<(), Fail> {
-    let schema = timetable(rt.alloc())?;
+    let schema = schema_of(rt.alloc(), TIMETABLE)?;
     let facts = read_value(rt.alloc(), NAMED)?;
     let Ok(read) = read_records(rt.alloc(), &schema, &facts) else {
         return Err("refused".into());

@@ -3,6 +3,8 @@ use plan_facts::{List, Memory, Text};
 use plan_rules::{Head, Joiner, Node, RuleDef};
 use plan_scores::{Level, PlanScore, Score};
 use std::alloc::Global;
+use test_plans::FactSketch;
+use test_plans::FactSketch::{Entity, Fact, Pinned};
 
 pub(super) const SLOT: u8 = 0;
 
@@ -56,14 +58,6 @@ pub(super) fn rules(alloc: Global) -> Result<List<RuleDef>, Memory> {
     Ok(rules)
 }
 
-/// A lesson of a plan: its slot must be given, its room may stay null.
-pub(super) struct Lesson {
-    pub(super) id: u32,
-    pub(super) slot: Option<u32>,
-    pub(super) room: Option<u32>,
-    pub(super) pinned: bool,
-}
-
 /// A lesson as it is placed, and the plan's score then.
 pub(super) struct Wanted {
     pub(super) lesson: u32,
@@ -72,38 +66,31 @@ pub(super) struct Wanted {
     pub(super) score: PlanScore,
 }
 
-/// A plan with slots 1 to `slots`, rooms 1 to `rooms` and some lessons; whether harder ones are placed first, how lessons
-/// are placed, in order, and at which one that is stuck.
+/// The slots, rooms and lessons of a plan; whether harder ones are placed first, how lessons are placed, in order, and at
+/// which one that is stuck.
 pub(super) struct Case {
     pub(super) name: &'static str,
-    pub(super) slots: u32,
-    pub(super) rooms: u32,
-    pub(super) lessons: &'static [Lesson],
+    pub(super) facts: &'static [&'static [FactSketch]],
     pub(super) decreasing: bool,
     pub(super) placed: &'static [Wanted],
     pub(super) stuck: Option<u32>,
 }
 
-const ONE: Lesson = Lesson {
-    id: 1,
-    slot: None,
-    room: None,
-    pinned: false,
-};
+/// Slot 1, or room 1.
+const ONE: &[FactSketch] = &[Fact(1, &[])];
 
-const TWO: Lesson = Lesson {
-    id: 2,
-    slot: None,
-    room: None,
-    pinned: false,
-};
+/// Slots 1 and 2, or rooms 1 and 2.
+const TWO: &[FactSketch] = &[Fact(1, &[]), Fact(2, &[])];
+
+/// Lessons 1 and 2, which are to be placed.
+const LESSON_ONE: FactSketch = Entity(1, &[], &[None, None]);
+
+const LESSON_TWO: FactSketch = Entity(2, &[], &[None, None]);
 
 pub(super) const CASES: &[Case] = &[
     Case {
         name: "of equal scores the first one, the first variable first",
-        slots: 2,
-        rooms: 2,
-        lessons: &[TWO, ONE],
+        facts: &[TWO, TWO, &[LESSON_TWO, LESSON_ONE]],
         decreasing: false,
         placed: &[
             Wanted {
@@ -137,21 +124,13 @@ pub(super) const CASES: &[Case] = &[
     },
     Case {
         name: "what may stay null is best left null",
-        slots: 1,
-        rooms: 1,
-        lessons: &[
-            Lesson {
-                id: 1,
-                slot: Some(1),
-                room: Some(1),
-                pinned: false,
-            },
-            Lesson {
-                id: 2,
-                slot: Some(1),
-                room: None,
-                pinned: false,
-            },
+        facts: &[
+            ONE,
+            ONE,
+            &[
+                Entity(1, &[], &[Some(1), Some(1)]),
+                Entity(2, &[], &[Some(1), None]),
+            ],
         ],
         decreasing: false,
         placed: &[Wanted {
@@ -171,26 +150,14 @@ pub(super) const CASES: &[Case] = &[
     },
     Case {
         name: "there is no slot",
-        slots: 0,
-        rooms: 1,
-        lessons: &[ONE, TWO],
+        facts: &[&[], ONE, &[LESSON_ONE, LESSON_TWO]],
         decreasing: false,
         placed: &[],
         stuck: Some(1),
     },
     Case {
         name: "a pinned one stays",
-        slots: 1,
-        rooms: 1,
-        lessons: &[
-            Lesson {
-                id: 1,
-                slot: None,
-                room: None,
-                pinned: true,
-            },
-            TWO,
-        ],
+        facts: &[ONE, ONE, &[Pinned(1, &[], &[None, None]), LESSON_TWO]],
         decreasing: false,
         placed: &[Wanted {
             lesson: 2,
@@ -209,17 +176,10 @@ pub(super) const CASES: &[Case] = &[
     },
     Case {
         name: "harder ones first, by the remainder of their ids by 100",
-        slots: 1,
-        rooms: 2,
-        lessons: &[
+        facts: &[
             ONE,
             TWO,
-            Lesson {
-                id: 101,
-                slot: None,
-                room: None,
-                pinned: false,
-            },
+            &[LESSON_ONE, LESSON_TWO, Entity(101, &[], &[None, None])],
         ],
         decreasing: true,
         placed: &[

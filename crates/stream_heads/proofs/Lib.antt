@@ -1,6 +1,9 @@
+pub mod Among
 pub mod Found
 pub mod HeadLaws
 pub mod Lists
 pub mod Meanings
+pub mod SideLaws
 pub mod Standings
 pub mod Values
+pub mod WithoutLaws

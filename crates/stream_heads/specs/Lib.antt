@@ -7,5 +7,9 @@ pub mod Exact
 pub mod Filled
 pub mod FilledBack
 pub mod Meant
+pub mod MemberEquality
 pub mod Numbers
+pub mod SideCodes
+pub mod Sides
 pub mod Standing
+pub mod Without

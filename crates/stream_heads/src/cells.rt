@@ -1,5 +1,6 @@
 ghost use Rattle.std.specs.Prelude.{◌≡◌, ◌≤◌, ◌<◌, ◌+◌, ◌++◌, ◌∷◌, [], ◌↔◌, IsTrue, length, map};
 ghost use Rattle.stream_heads.specs.Beside.{beside};
+ghost use Rattle.stream_heads.specs.Exact.{is_among};
 ghost use Rattle.stream_heads.specs.Numbers.{cell_number};
 
 use crate::placed::Placed;
@@ -96,6 +97,18 @@ impl Cells {
             [a, b, c] => Cells::of(&[*a, *b, *c, cell]),
             _ => unreachable!(),
         }
+    }
+
+    /// Whether the row is one of these.
+    pub fn is_among(&self, rows: &[Cells]) -> bool
+        ensures { result ≡ is_among rows.now self.now }
+    {
+        for row in rows {
+            if self.same(row) {
+                return true;
+            }
+        }
+        false
     }
 
     /// The row with the first cell of another one behind it, where there is room.

@@ -1,8 +1,11 @@
+ghost use Rattle.std.specs.Prelude.{◌≤◌, length};
+
 use super::*;
 use plan_facts::{List, Memory, Rec};
 use plan_rules::Part;
 use std::alloc::Global;
 use std::test::Fail;
+use stream_index::Key;
 
 /// A record of class 0 without fields.
 fn record(alloc: Global, id: u32) -> Rec {
@@ -79,5 +82,44 @@ fn rows_that_are_kept_come_and_go(rt: HostRuntime) -> Result<(), Fail> {
     kept.leave_all(&[two]);
     kept.commit();
     assert!(rt; kept.has(&one) && !kept.has(&two));
+    Ok(())
+}
+
+/// How many members of a side have these first numbers.
+fn count_under(side: &Side, numbers: &[i64]) -> usize
+    requires { length numbers.now ≤ 4 }
+{
+    side.under(&Key::of(numbers)).len()
+}
+
+#[test]
+fn rows_are_found_by_the_first_of_their_numbers(rt: HostRuntime) -> Result<(), Fail> {
+    let mut side = Side::new(rt.alloc(), 1);
+    let one = Cells::of(&[Cell::Place(1)]);
+    let two = Cells::of(&[Cell::Place(2)]);
+    let numbers = Key::of(&[5, 9]);
+    side.come(Member {
+        cells: one,
+        numbers,
+    })?;
+    side.begin();
+    let numbers = Key::of(&[5, 8]);
+    side.come_all(&[Member {
+        cells: two,
+        numbers,
+    }])?;
+    assert_eq!(rt; count_under(&side, &[5]), 2);
+    assert_eq!(rt; count_under(&side, &[5, 8]), 2);
+    assert_eq!(rt; count_under(&side, &[9]), 0);
+    side.leave_all(&[one]);
+    assert_eq!(rt; count_under(&side, &[5]), 1);
+    assert!(rt; side.find(&one).is_none());
+    assert!(rt; matches!(side.find(&two), Some(member) if member.numbers == numbers));
+    side.rollback();
+    assert!(rt; side.find(&one).is_some() && side.find(&two).is_none());
+    side.begin();
+    side.leave(&one);
+    side.commit();
+    assert_eq!(rt; count_under(&side, &[5]), 0);
     Ok(())
 }

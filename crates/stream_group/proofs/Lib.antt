@@ -1,0 +1,15 @@
+pub mod Asked
+pub mod Collecting
+pub mod Counts
+pub mod Exactly
+pub mod Finding
+pub mod Gaining
+pub mod KeyCounts
+pub mod KeyRows
+pub mod Listed
+pub mod Runs
+pub mod Seen
+pub mod Starts
+pub mod Tallied
+pub mod Turning
+pub mod Handed

@@ -1,0 +1,50 @@
+-- What tallies stand for, one number after the other and in any order.
+use Rattle.std.proofs.Common.{◌≡◌, ◌∙◌, ℤ, Bool, List, [], ◌∷◌, ◌++◌, Option, Some, ap, sym, subst, append_assoc, arith}
+use Rattle.std.specs.Prelude.{All}
+use Rattle.std.specs.Ordering.{int_eq}
+use Rattle.std.proofs.lemmas.List.{length-append}
+use Rattle.std.proofs.lemmas.List.Elements.{All-cons, All-head, All-nil, All-tail}
+use Rattle.plan_rules.specs.Bags.{AreSame}
+use Rattle.plan_rules.specs.Meaning.{IsKeyNumber}
+use Rattle.plan_rules.proofs.Sums.{list_any-same, same-append, same-refl, same-sym}
+use Rattle.stream_group.specs.declared.tally.Tally.{Tally}
+use Rattle.stream_group.specs.Collected.{AreFewKeys, counts_different, made_if_any, with_more}
+use Rattle.stream_group.specs.Tally.{SeesMore, Tallies, TalliesMore}
+use Rattle.stream_group.proofs.Collecting.{few-same, made-more, made_if_any-same}
+
+keys_front : (xs ys : List ℤ) → All IsKeyNumber (xs ++ ys) → All IsKeyNumber xs
+keys_front [] ys all = All-nil IsKeyNumber
+keys_front (x ∷ xs) ys all = All-cons IsKeyNumber x xs (All-head IsKeyNumber x (xs ++ ys) all) (keys_front xs ys (All-tail IsKeyNumber x (xs ++ ys) all))
+
+-- the first of few keys
+pub few_front : (xs ys : List ℤ) → AreFewKeys (xs ++ ys) → AreFewKeys xs
+few_front xs ys few = record {
+  keys = keys_front xs ys few.keys;
+  few = let le = few.few in omega (arith, le, length-append xs ys);
+}
+
+-- one number more, where what was made of it is known
+pub tallied : (old new : Tally) (numbers : List ℤ) (number : ℤ) (is_new : Bool) → new.collect ≡ old.collect
+    → new.made ≡ Some (with_more old.collect old.made number is_new) → SeesMore new numbers number is_new → Tallies old numbers → Tallies new (numbers ++ number ∷ [])
+tallied old new numbers number is_new collect made sees was = record {
+  made = λ few.
+      made ∙ ap (λ (m : Option ℤ). Some (with_more old.collect m number is_new)) (was.made (few_front numbers (number ∷ []) few))
+      ∙ made-more old.collect numbers number is_new few (λ different. sees.count (ap counts_different collect ∙ different))
+      ∙ ap (λ c. made_if_any c (numbers ++ number ∷ [])) (sym collect);
+  sees = sees.sees;
+}
+
+-- more numbers and more again
+pub tallies_on : (one two three : Tally) (xs ys : List ℤ) → TalliesMore one two xs → TalliesMore two three ys → TalliesMore one three (xs ++ ys)
+tallies_on one two three xs ys first second = λ numbers was. subst (Tallies three) (append_assoc numbers xs ys) (second (numbers ++ xs) (first numbers was))
+
+-- the same numbers in another order
+tallies-same : (tally : Tally) (xs ys : List ℤ) → AreSame xs ys → Tallies tally xs → Tallies tally ys
+tallies-same tally xs ys same was = record {
+  made = λ few. was.made (few-same ys xs (same-sym xs ys same) few) ∙ made_if_any-same tally.collect xs ys same;
+  sees = λ different. (λ q. (was.sees different).0 q ∙ list_any-same (int_eq q) xs ys same, (was.sees different).1);
+}
+
+pub tallies_in_any_order : (one two : Tally) (xs ys : List ℤ) → AreSame xs ys → TalliesMore one two xs → TalliesMore one two ys
+tallies_in_any_order one two xs ys same more = λ numbers was.
+    tallies-same two (numbers ++ xs) (numbers ++ ys) (same-append numbers numbers xs ys (same-refl numbers) same) (more numbers was)

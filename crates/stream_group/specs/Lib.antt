@@ -1,0 +1,11 @@
+pub mod Asked
+pub mod Collected
+pub mod Group
+pub mod Grouped
+pub mod Keyed
+pub mod Laws
+pub mod Nodes
+pub mod Remainders
+pub mod Tally
+pub mod Turns
+pub mod Whole

@@ -1,0 +1,18 @@
+//! A node of a network that makes one row of the rows with each key, and is led on bit by bit.
+#![tactic(auto)]
+
+mod ahead;
+mod change;
+mod group;
+mod grouping;
+mod laws;
+mod tally;
+mod turn;
+
+pub use ahead::GroupAhead;
+pub use group::GroupNode;
+pub use grouping::Grouping;
+pub use laws::group_rows_mean_groups;
+
+#[cfg(test)]
+mod tests;

@@ -1,5 +1,5 @@
 -- Which text is due, and under which status.
-use Rattle.std.specs.Prelude.{◌≡◌, ℕ, List, Option, Some, None, Ok, Err, codes, slice_get}
+use Rattle.std.specs.Prelude.{◌≡◌, ◌++◌, ◌⊎◌, ℕ, List, Option, Some, None, Ok, Err, codes, slice_get}
 use Rattle.plan_ports.specs.Outside.{FailsAt, Holds, ShelfState}
 use Rattle.plan_rules.specs.Meaning.{Meaning}
 use Rattle.move_selectors.specs.Candidates.{Made}
@@ -11,7 +11,10 @@ use Rattle.plan_texts.specs.Posed.{posed_in}
 use Rattle.plan_session.specs.declared.task.Wanted.{Wanted}
 use Rattle.plan_session.specs.declared.status.Status.{Status}
 use Rattle.plan_session.specs.declared.status.Status.TheVariants as status
-use Rattle.plan_session.specs.Task.{Task, text_wanted}
+use Rattle.plan_gen.specs.Text.{problem_text}
+use Rattle.plan_words.specs.declared.command.Command.{Command}
+use Rattle.plan_session.specs.Ending.{Says}
+use Rattle.plan_session.specs.Task.{Task, generated_by, text_wanted}
 
 -- the line that says that the words are no command
 abbrev pub usage_line : List ℕ
@@ -21,10 +24,16 @@ usage_line = codes "refused usage\n"
 abbrev pub source_line : List ℕ
 source_line = codes "refused source\n"
 
--- a run as contracts see it: what its words ask for, the domains that problems may be of, the makers of moves of each, what
--- the closures of their rules mean, and its shelf before and after it
+-- a generated problem, as one line
+abbrev pub generated_text : ℕ → ℕ → List ℕ
+generated_text number size = problem_text number size ++ codes "\n"
+
+-- a run as contracts see it: what its words ask for of a problem, the number and the size of the problem that they ask to
+-- generate, the domains that problems may be of, the makers of moves of each, what the closures of their rules mean, and its
+-- shelf before and after it
 pub record Run : Type 0 where
   pub asked : Option Task
+  pub generates : Option (ℕ × ℕ)
   pub domains : List DomainView
   pub makers : List (List Made)
   pub meaning : Meaning
@@ -68,9 +77,17 @@ pub record DueOk (run : Run) (text : List ℕ) : Type 0 where
   pub held : Holds run.shelf task.name bytes
   pub answers : Answers run.domains run.makers run.meaning task.wanted bytes text
 
+-- 0: a problem was generated
+pub record DueGenerated (run : Run) (text : List ℕ) : Type 0 where
+  pub number : ℕ
+  pub size : ℕ
+  pub generates : run.generates ≡ Some (number, size)
+  pub says : text ≡ generated_text number size
+
 -- 2: the words are no command that is built
 pub record DueUsage (run : Run) (text : List ℕ) : Type 0 where
   pub unasked : run.asked ≡ None
+  pub ungenerated : run.generates ≡ None
   pub says : text ≡ usage_line
 
 -- 3: the shelf failed at the problem's name, which isn't sound
@@ -90,8 +107,17 @@ pub record DueProblem (run : Run) (line : List ℕ) : Type 0 where
 
 -- the text that is due in a run under a status
 abbrev pub IsDue : Run → Status → List ℕ → Type 0
-IsDue run status.Ok text = DueOk run text
+IsDue run status.Ok text = DueOk run text ⊎ DueGenerated run text
 IsDue run status.Usage text = DueUsage run text
 IsDue run status.Source text = DueSource run text
 IsDue run status.Problem text = DueProblem run text
 IsDue run _ text = ⊥
+
+-- what is due where a problem of this number and size is to be generated, or none
+abbrev pub DueMade : Option (ℕ × ℕ) → Status → List ℕ → Type 0
+DueMade (Some made) = Says status.Ok (generated_text made.0 made.1)
+DueMade None = Says status.Usage usage_line
+
+-- what is due for a command that reads no problem: what it generates, or that it is none that is built
+abbrev pub DueUnread : Command → Status → List ℕ → Type 0
+DueUnread command = DueMade (generated_by command)

@@ -31,6 +31,19 @@ task_of (Tour number size workers buffer) = None
 unfoldable pub task_asked : List (List ℕ) → Option Task
 task_asked words = option_and_then task_of (command words)
 
+-- the number and the size of the problem that a command generates
+abbrev pub generated_by : Command → Option (ℕ × ℕ)
+generated_by (Solve name feed workers buffer) = None
+generated_by (Replay name feed journal) = None
+generated_by (Score name) = None
+generated_by (Explain name) = None
+generated_by (Gen number size) = Some (number, size)
+generated_by (Tour number size workers buffer) = None
+
+-- the number and the size of the problem that the words ask to generate; none where they ask for something else
+unfoldable pub generation_asked : List (List ℕ) → Option (ℕ × ℕ)
+generation_asked words = option_and_then generated_by (command words)
+
 -- the text that is wanted of a posed problem
 abbrev pub text_wanted : Wanted → Posed → List ℕ
 text_wanted want.Solution = solve_text

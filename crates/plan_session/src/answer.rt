@@ -97,7 +97,8 @@ pub fn answer<B: Book, K: Sink>(
     out: &mut K,
 ) -> Status
     requires keeps { All (λ domain. ⟦<Rules<B> as Kept>⟧.keeps domain.rules) domains.now }
-    ensures ended { let makers = map (λ d. map (λ m. (⟦<dyn Maker as Maker>⟧ m.vtable).made m.value) d.makers.items) domains.now in
+    ensures ended { let makers = map (λ d. map (λ m. (⟦<dyn Maker as Maker>⟧ m.vtable).made m.value)
+        d.makers.items) domains.now in
         let is_due = DueForBytes (domain_views domains.now) makers B.meaning wanted bytes.now in
         Ended is_due (K.state out.old) (K.state out.new) result }
     ensures later { LaterSink (K.state out.old) (K.state out.new) }

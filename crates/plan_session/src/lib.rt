@@ -2,6 +2,7 @@
 #![tactic(auto)]
 
 mod answer;
+mod generate;
 mod outside;
 mod status;
 mod task;

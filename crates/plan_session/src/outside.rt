@@ -3,11 +3,9 @@ ghost use Rattle.plan_ports.specs.Outside.{FailsAt, Holds, LaterShelf, LaterSink
 ghost use Rattle.plan_session.specs.Ending.{Ended, Says};
 
 use crate::status::Status;
+use plan_json::BYTE_LIMIT;
 use plan_ports::{PortFault, ReadFault, Shelf, Sink, put_all, read_all};
 use std::alloc::Global;
-
-/// The most bytes that a problem may have.
-const BYTE_LIMIT: u64 = 67_108_864;
 
 /// Opens the file of this name, reads it to its end, and gives it back.
 pub fn fetch<S: Shelf>(alloc: Global, shelf: &mut S, name: &[u8]) -> Result<Vec<u8>, ReadFault>
@@ -23,7 +21,7 @@ pub fn fetch<S: Shelf>(alloc: Global, shelf: &mut S, name: &[u8]) -> Result<Vec<
         Err(PortFault::Memory) => return Err(ReadFault::Memory),
         Err(PortFault::Failed) => return Err(ReadFault::Failed),
     };
-    let read = read_all(alloc, &mut file, BYTE_LIMIT);
+    let read = read_all(alloc, &mut file, BYTE_LIMIT as u64);
     shelf.close(file);
     read
 }

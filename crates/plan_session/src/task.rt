@@ -1,5 +1,5 @@
 ghost use Rattle.std.specs.Prelude.{◌≡◌, option_map};
-ghost use Rattle.plan_session.specs.Task.{task, task_of};
+ghost use Rattle.plan_session.specs.Task.{generated_by, task, task_of};
 
 use plan_words::Command;
 
@@ -12,7 +12,8 @@ pub enum Wanted {
     Score,
 }
 
-/// The name of the problem that a command reads, and what it wants of it; none for a command that isn't built yet.
+/// The name of the problem that a command reads, and what it wants of it; none for a command that reads none, or that isn't
+/// built yet.
 pub fn task_of(command: &Command) -> Option<(&[u8], Wanted)>
     ensures { option_map (λ asked. task asked.0.now asked.1) result ≡ task_of command.now }
 {
@@ -23,6 +24,16 @@ pub fn task_of(command: &Command) -> Option<(&[u8], Wanted)>
             ..
         } => Some((name.as_slice(), Wanted::Solution)),
         Command::Score { name } => Some((name.as_slice(), Wanted::Score)),
+        _ => None,
+    }
+}
+
+/// The number and the size of the problem that a command generates; none for another command.
+pub fn generated_by(command: &Command) -> Option<(u32, u32)>
+    ensures { result ≡ generated_by command.now }
+{
+    match command {
+        Command::Gen { number, size } => Some((*number, *size)),
         _ => None,
     }
 }

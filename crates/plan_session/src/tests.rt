@@ -1,7 +1,8 @@
 ghost use Rattle.std.specs.Prelude.{◌≡◌, All, IfOk};
 
 use super::*;
-use plan_facts::{ClassDef, FieldDef, Kind, List, Memory, Schema, Text, VarDef, is_name};
+use plan_facts::Kind::{Name, Number};
+use plan_facts::{List, Memory, Text, is_name};
 use plan_json::Domain;
 use plan_ports::{MemFile, MemShelf, MemSink, NoGate};
 use plan_rules::{Book, Head, Kept, RuleDef, Rules};
@@ -11,6 +12,8 @@ use std::process::Abort;
 use std::sync::Wait;
 use std::test::Fail;
 use std::thread::Threads;
+use test_plans::VarSketch::Var;
+use test_plans::{ClassSketch, schema_of};
 
 const LESSON: u8 = 2;
 
@@ -24,46 +27,16 @@ impl Book for Silent {
     ghost meaning = { record { test_of = λ _ _. false; key_of = λ _ _. pos 0; weight_of = λ _ _. 0 } };
 }
 
-/// A class with these fields and these variables.
-fn class_of(
-    alloc: Global,
-    name: &[u8],
-    fields: &[(&[u8], Kind)],
-    vars: &[(&[u8], u8)],
-) -> Result<ClassDef, Memory> {
-    let mut class = ClassDef {
-        name: Text::from_slice(alloc, name)?,
-        fields: List::new(alloc),
-        vars: List::new(alloc),
-    };
-    for (name, kind) in fields {
-        let name = Text::from_slice(alloc, name)?;
-        class.fields.push(FieldDef { name, kind: *kind })?;
-    }
-    for (name, values) in vars {
-        let name = Text::from_slice(alloc, name)?;
-        class.vars.push(VarDef {
-            name,
-            values: *values,
-            nullable: false,
-        })?;
-    }
-    Ok(class)
-}
-
 /// Slots, rooms, and lessons that have a slot and a room.
-fn classes(alloc: Global) -> Result<List<ClassDef>, Memory> {
-    let mut classes = List::new(alloc);
-    classes.push(class_of(alloc, b"timeslot", &[(b"day", Kind::Number)], &[])?)?;
-    classes.push(class_of(alloc, b"room", &[(b"capacity", Kind::Number)], &[])?)?;
-    classes.push(class_of(
-        alloc,
-        b"lesson",
-        &[(b"subject", Kind::Name)],
-        &[(b"slot", 0), (b"room", 1)],
-    )?)?;
-    Ok(classes)
-}
+const CLASSES: &[ClassSketch] = &[
+    ClassSketch("timeslot", &[("day", Number)], &[]),
+    ClassSketch("room", &[("capacity", Number)], &[]),
+    ClassSketch(
+        "lesson",
+        &[("subject", Name)],
+        &[Var("slot", 0), Var("room", 1)],
+    ),
+];
 
 /// One rule, which every placed lesson matches, a penalty of weight 1.
 fn defs(alloc: Global) -> Result<List<RuleDef>, Memory> {
@@ -88,7 +61,7 @@ fn school(alloc: Global) -> Result<Domain<Silent>, Fail>
     if !is_name(name.as_slice()) {
         return Err("no name".into());
     }
-    let schema = Schema::build(classes(alloc)?)?;
+    let schema = schema_of(alloc, CLASSES)?;
     let rules = Rules::build(
         alloc,
         &schema,
@@ -187,7 +160,20 @@ rule any_lesson 1 -1hard/0medium/0soft
 end
 "#;
 
-const CASES: [Case; 9] = [
+/// The smallest generated problem.
+const GENERATED: &str =
+    r#"{"domain":"timetable","facts":{"lesson":[{"group":"G0","id":1,"size":20,"subject":"S0","teacher":"T0"}],"room":[{"capacity":30,"id":1}],"timeslot":[{"day":1,"end":540,"id":1,"start":480}]},"format":1,"settings":{"seed":0,"steps":5}}
+"#;
+
+const CASES: [Case; 10] = [
+    Case {
+        words: "gen 0 1",
+        problem: LESSONS,
+        opens: &[0],
+        puts: &[],
+        text: GENERATED,
+        status: Status::Ok,
+    },
     Case {
         words: "solve p",
         problem: LESSONS,

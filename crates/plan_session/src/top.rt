@@ -3,9 +3,10 @@ ghost use Rattle.plan_ports.specs.Outside.{LaterShelf, LaterSink};
 ghost use Rattle.plan_json.specs.Seen.{domain_views};
 ghost use Rattle.plan_session.specs.Due.{IsDue, Run};
 ghost use Rattle.plan_session.specs.Ending.{Ended};
-ghost use Rattle.plan_session.specs.Task.{task, task_asked};
+ghost use Rattle.plan_session.specs.Task.{generation_asked, task, task_asked};
 
 use crate::answer::answer;
+use crate::generate::answer_unread;
 use crate::outside::{fetch, say};
 use crate::status::Status;
 use crate::task::{Wanted, task_of};
@@ -31,6 +32,7 @@ fn perform<B: Book, S: Shelf, K: Sink>(
     requires keeps { All (λ domain. ⟦<Rules<B> as Kept>⟧.keeps domain.rules) domains.now }
     ensures ended { let run : Run = record {
       asked = Some (task name.now wanted);
+      generates = None;
       domains = domain_views domains.now;
       makers = map (λ d. map (λ m. (⟦<dyn Maker as Maker>⟧ m.vtable).made m.value) d.makers.items) domains.now;
       meaning = B.meaning;
@@ -52,7 +54,7 @@ fn perform<B: Book, S: Shelf, K: Sink>(
 
 /// Carries out what the words ask for: a problem is read from the shelf, and what is due for it is written to the
 /// sink. `solve NAME` prints the search of its plan, step by step, with the best plan and its score; `score NAME` the
-/// score of its plan as read. Other commands aren't built yet.
+/// score of its plan as read; `gen NUMBER SIZE` prints a generated problem, and reads nothing. Other commands aren't built yet.
 pub fn run<T: Threads + Wait + Sync, B: Book, S: Shelf, K: Sink + Send, G: Gate + Sync>(
     _rt: &T,
     alloc: Global,
@@ -69,6 +71,7 @@ where
     // How it ended: with the text that is due under its status, or cut short by want of memory or by the sink.
     ensures ended { let run : Run = record {
       asked = task_asked words.now;
+      generates = generation_asked words.now;
       domains = domain_views domains.now;
       makers = map (λ d. map (λ m. (⟦<dyn Maker as Maker>⟧ m.vtable).made m.value) d.makers.items) domains.now;
       meaning = B.meaning;
@@ -77,7 +80,7 @@ where
     } in
         Ended (IsDue run) (K.state out.old) (K.state out.new) result }
 
-    // Words that are no command that is built leave the shelf alone, however it ended.
+    // Words that are no command that is built, or that reads no problem, leave the shelf alone, however it ended.
     ensures untouched { task_asked words.now ≡ None → shelf.new ≡ shelf.old }
 
     // Every file that was opened is given back, and shelf and sink promise what they promised.
@@ -88,7 +91,7 @@ where
     match read_words(alloc, words) {
         Ok(command) => match task_of(&command) {
             Some((name, wanted)) => perform(alloc, name, wanted, shelf, out, domains),
-            None => say(out, Status::Usage, b"refused usage\n"),
+            None => answer_unread(alloc, &command, out),
         },
         Err(WordFault::Memory) => Status::Memory,
         Err(WordFault::Usage) => say(out, Status::Usage, b"refused usage\n"),

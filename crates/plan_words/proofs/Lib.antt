@@ -4,3 +4,4 @@ pub mod SortLemmas
 pub mod Utf8Lemmas
 pub mod ValueLemmas
 pub mod ReadLemmas
+pub mod Sizes

@@ -1,5 +1,5 @@
 -- The commands: which words are which command.
-use Rattle.std.specs.Prelude.{ℕ, ◌-◌, ◌^◌, Bool, ◌&&◌, List, [], ◌∷◌, Option, Some, None, option_and_then, option_to_list, is_none, if◌then◌else◌}
+use Rattle.std.specs.Prelude.{ℕ, ◌-◌, ◌^◌, ◌≤◌, Bool, ◌&&◌, List, [], ◌∷◌, Option, Some, None, option_and_then, option_to_list, is_none, if◌then◌else◌}
 use Rattle.plan_words.specs.Items.{Word}
 use Rattle.plan_words.specs.Sorted.{Sorted, one, two, sorted_words}
 use Rattle.plan_words.specs.Values.{are_names, number_in, number_or}
@@ -91,3 +91,12 @@ command_of verbs.Tour s = tour s
 abbrev pub command : List Word → Option Command
 command [] = None
 command (first ∷ others) = given (verb first) (λ v. given (sorted_words others) (command_of v))
+
+-- the size of a generated problem is from 1 to 10,000
+abbrev pub IsSized : Command → Type 0
+IsSized (Solve name feed workers buffer) = Unit {0}
+IsSized (Replay name feed journal) = Unit {0}
+IsSized (Score name) = Unit {0}
+IsSized (Explain name) = Unit {0}
+IsSized (Gen number size) = (1 ≤ size) × (size ≤ 10000)
+IsSized (Tour number size workers buffer) = (1 ≤ size) × (size ≤ 10000)

@@ -2,7 +2,7 @@
 #![tactic(auto)]
 
 ghost use Rattle.std.specs.Prelude.{◌≡◌, ◌↔◌, IfOk, Some, None};
-ghost use Rattle.plan_words.specs.Command.{command};
+ghost use Rattle.plan_words.specs.Command.{IsSized, command};
 
 mod command;
 mod line;
@@ -26,6 +26,7 @@ use std::alloc::Global;
 /// handed to its command's parser in one order. Usage comes just where the words are no command.
 pub fn read_words(alloc: Global, words: &[Text]) -> Result<Command, WordFault>
     ensures command { IfOk result (λ c. command words.now ≡ Some c) }
+    ensures sized { IfOk result IsSized }
     ensures usage { (result ≡ Err WordFault.Usage) ↔ (command words.now ≡ None) }
 {
     match accepted(words) {

@@ -1,5 +1,5 @@
 -- What places mean.
-use Rattle.std.specs.Prelude.{◌≡◌, ℕ, Bool, true, List, [], ◌∷◌, map, is_some, unwrap_or, Some}
+use Rattle.std.specs.Prelude.{◌≡◌, ℕ, Bool, true, List, [], ◌∷◌, map, is_some, length, unwrap_or, Some}
 use Rattle.std.specs.List.{flat_map, list_all}
 use Rattle.std.specs.FinMap as finmap
 use Rattle.plan_facts.specs.declared.record.Rec.{Rec}
@@ -37,6 +37,15 @@ abbrev pub record_in : List Part → Rec
 record_in [] = record { class = 0; id = 0; fields = []; planned = [] }
 record_in (Fact rec ∷ rest) = rec
 record_in (Num n ∷ rest) = record { class = 0; id = 0; fields = []; planned = [] }
+
+-- the record that a row means
+abbrev pub record_at : Rows → List Cell → Rec
+record_at heads row = record_in (row_at heads row)
+
+-- the row is one cell, and means one record
+pub record IsOneRecord (heads : Rows) (row : List Cell) : Type 0 where
+  pub single : length row ≡ 1
+  pub means : row_at heads row ≡ row_of (record_at heads row)
 
 -- each place means the row of one record
 abbrev pub AreHeads : Rows → Type 0

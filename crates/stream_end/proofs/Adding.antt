@@ -1,0 +1,60 @@
+-- The weights of rows that go are taken off, and those of rows that come are added, one after the other.
+use Rattle.std.proofs.Common.{◌≡◌, ◌<◌, ◌+◌, ◌-◌, ◌∙◌, ℕ, ℤ, List, [], ◌∷◌, ◌++◌, get_or, length, take, ap, sym, subst, append_assoc, arith}
+use Rattle.std.specs.Prelude.{All}
+use Rattle.std.proofs.lemmas.List.{map-append, take_more}
+use Rattle.std.proofs.lemmas.List.Elements.{All-append}
+use Rattle.std.proofs.lemmas.List.Sums.{sum_by-append}
+use Rattle.stream_heads.specs.declared.cells.Cell.{Cell}
+use Rattle.stream_heads.specs.declared.member.Member.{Member}
+use Rattle.stream_heads.specs.Bags.{IsPartOf}
+use Rattle.stream_heads.specs.Sides.{all_numbered, numbered}
+use Rattle.stream_end.specs.declared.ahead.EndAhead.{EndAhead}
+use Rattle.stream_end.specs.Found.{TakesOff, Weighs}
+use Rattle.stream_end.specs.Weights.{IsWeight, clipped, kept_sum, weight_in}
+
+front_part : {X : Type 0} (xs ys zs : List X) → IsPartOf (xs ++ ys) zs → IsPartOf xs zs
+front_part xs ys zs part = record { sums = λ f. let a = part.sums f in omega (arith, a, sum_by-append f xs ys) }
+
+back_part : {X : Type 0} (xs ys zs : List X) → IsPartOf (xs ++ ys) zs → IsPartOf ys zs
+back_part xs ys zs part = record { sums = λ f. let a = part.sums f in omega (arith, a, sum_by-append f xs ys) }
+
+-- what the rows of two lists weigh
+sum_both : (weights : List Cell → List ℤ) (xs ys : List (List Cell)) → kept_sum (all_numbered weights (xs ++ ys)) ≡ kept_sum (all_numbered weights xs) + kept_sum (all_numbered weights ys)
+sum_both weights xs ys = ap kept_sum (map-append (numbered weights) xs ys) ∙ sum_by-append weight_in (all_numbered weights xs) (all_numbered weights ys)
+
+less_both : (a b c x y z : ℕ) → b ≡ a - x → c ≡ b - y → z ≡ x + y → c ≡ a - z
+less_both a b c x y z one other both = omega (arith, one, other, both)
+
+more_both : (a b c x y z : ℕ) → b ≡ clipped (a + x) → c ≡ clipped (b + y) → z ≡ x + y → c ≡ clipped (a + z)
+more_both a b c x y z one other both = omega (arith, one, other, both)
+
+takes_on : (members : List Member) (xs ys : List (List Cell)) (a b c : ℕ) → TakesOff members xs a b → TakesOff members ys b c → TakesOff members (xs ++ ys) a c
+takes_on members xs ys a b c one other = λ weights all part.
+    let parts = subst (λ (ms : List Member). IsPartOf ms members) (map-append (numbered weights) xs ys) part in
+    less_both a b c (kept_sum (all_numbered weights xs)) (kept_sum (all_numbered weights ys)) (kept_sum (all_numbered weights (xs ++ ys)))
+    (one weights all (front_part (all_numbered weights xs) (all_numbered weights ys) members parts))
+    (other weights all (back_part (all_numbered weights xs) (all_numbered weights ys) members parts)) (sum_both weights xs ys)
+
+-- the weight of one row more was taken off
+pub takes_more : (members : List Member) (gone : List (List Cell)) (i : ℕ) (x : List Cell) (a b c : ℕ) → i < length gone → x ≡ get_or gone i x
+    → TakesOff members (take i gone) a b → TakesOff members (x ∷ []) b c → TakesOff members (take (i + 1) gone) a c
+takes_more members gone i x a b c within is one other =
+    subst (λ (rows : List (List Cell)). TakesOff members rows a c) (ap (λ (y : List Cell). take i gone ++ y ∷ []) is ∙ sym (take_more gone i x within)) (takes_on members (take i gone) (x ∷ []) a b c one other)
+
+weighs_on : (weights : List Cell → List ℤ) (xs ys : List (List Cell)) (a b c : EndAhead) → Weighs weights xs a b → Weighs weights ys b c → Weighs weights (xs ++ ys) a c
+weighs_on weights xs ys a b c one other = record {
+  come_is =
+      other.come_is ∙ ap (λ (ms : List Member). ms ++ all_numbered weights ys) one.come_is
+      ∙ append_assoc a.come.items (all_numbered weights xs) (all_numbered weights ys)
+      ∙ ap (λ (ms : List Member). a.come.items ++ ms) (sym (map-append (numbered weights) xs ys));
+  fit = subst (All IsWeight) (sym (map-append (numbered weights) xs ys)) (All-append IsWeight (all_numbered weights xs) (all_numbered weights ys) one.fit other.fit);
+  total =
+      more_both a.total b.total c.total (kept_sum (all_numbered weights xs)) (kept_sum (all_numbered weights ys)) (kept_sum (all_numbered weights (xs ++ ys)))
+      one.total other.total (sum_both weights xs ys);
+}
+
+-- one row more was weighed
+pub weighs_more : (weights : List Cell → List ℤ) (come : List (List Cell)) (i : ℕ) (x : List Cell) (a b c : EndAhead) → i < length come → x ≡ get_or come i x
+    → Weighs weights (take i come) a b → Weighs weights (x ∷ []) b c → Weighs weights (take (i + 1) come) a c
+weighs_more weights come i x a b c within is one other =
+    subst (λ (rows : List (List Cell)). Weighs weights rows a c) (ap (λ (y : List Cell). take i come ++ y ∷ []) is ∙ sym (take_more come i x within)) (weighs_on weights (take i come) (x ∷ []) a b c one other)

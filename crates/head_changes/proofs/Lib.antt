@@ -1,0 +1,9 @@
+pub mod Back
+pub mod Keyed
+pub mod Keys
+pub mod Lists
+pub mod Outcome
+pub mod States
+pub mod Steps
+pub mod Takings
+pub mod Without

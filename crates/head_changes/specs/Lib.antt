@@ -1,0 +1,4 @@
+pub mod Changes
+pub mod Gathered
+pub mod Takers
+pub mod Turns

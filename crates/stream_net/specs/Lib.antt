@@ -1,0 +1,12 @@
+pub mod Chain
+pub mod Fresh
+pub mod Holding
+pub mod Laws
+pub mod Meaning
+pub mod Net
+pub mod NetCode
+pub mod NetState
+pub mod Nodes
+pub mod Rule
+pub mod Stations
+pub mod Turning

@@ -11,20 +11,14 @@ use Rattle.plan_rules.specs.declared.rule.RuleDef.{RuleDef}
 use Rattle.plan_rules.specs.Named.{rule_name}
 use Rattle.plan_rules.specs.declared.row.Part.{Part}
 use Rattle.plan_rules.specs.declared.row.Part.TheVariants.{Fact, Num}
+use Rattle.plan_reports.specs.Facts.{fact_text}
+use Rattle.plan_reports.specs.ChangeLines.{applied_text, applied_rule_text, refused_text}
 use Rattle.plan_reports.specs.declared.line.Line.{Line}
 use Rattle.plan_reports.specs.declared.line.Line.TheVariants as line
-
--- the name of a class
-abbrev pub class_name : List ClassDef → ℕ → List ℕ
-class_name classes class = option_map_or (λ c. c.name) (slice_get classes class) []
 
 -- the variables of a class
 abbrev pub variables_of : List ClassDef → ℕ → List VarDef
 variables_of classes class = option_map_or (λ c. c.vars) (slice_get classes class) []
-
--- a fact: its class and id, as in lesson#1
-abbrev pub fact_text : List ClassDef → ℕ → ℕ → List ℕ
-fact_text classes class id = class_name classes class ++ codes "#" ++ decimal id
 
 -- the id of a value, or a dash for null
 abbrev pub value_text : Option ℕ → List ℕ
@@ -90,6 +84,9 @@ step_text step winner score is_best =
 abbrev pub line_text : List ClassDef → List RuleDef → Line → List ℕ
 line_text classes rules (line.Run domain) = codes "run " ++ domain ++ codes "\n"
 line_text classes rules (line.Leg boundary) = codes "leg " ++ decimal boundary ++ codes "\n"
+line_text classes rules (line.Applied feed boundary class id) = applied_text classes feed boundary class id
+line_text classes rules (line.AppliedRule feed boundary rule) = applied_rule_text rules feed boundary rule
+line_text classes rules (line.Refused feed boundary fault) = refused_text classes rules feed boundary fault
 line_text classes rules (line.Place class id values score) = place_text classes class id values score
 line_text classes rules (line.Stuck class id) = codes "stuck " ++ fact_text classes class id ++ codes "\n"
 line_text classes rules (line.Start score) = scored_text (codes "start ") score

@@ -1,6 +1,7 @@
 //! Reports: every line that a run prints, and its text.
 #![tactic(auto)]
 
+mod change;
 mod line;
 mod parts;
 

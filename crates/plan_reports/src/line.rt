@@ -1,11 +1,14 @@
 ghost use Rattle.std.specs.Prelude.{◌++◌, codes, decimal};
 ghost use Rattle.plan_facts.specs.Append.{Appends};
-ghost use Rattle.plan_reports.specs.Lines.{entity_text, fact_text, line_text, match_text, place_text, scored_text, step_end, step_text, sum_text, winner_text};
+ghost use Rattle.plan_reports.specs.Facts.{fact_text};
+ghost use Rattle.plan_reports.specs.Lines.{entity_text, line_text, match_text, place_text, scored_text, step_end, step_text, sum_text, winner_text};
 ghost use Rattle.plan_reports.specs.Puts.{Puts};
 
+use crate::change::{put_applied, put_applied_rule, put_refused};
 use crate::parts::{
     put, put_entity, put_fact, put_number, put_plan_score, put_row, put_score, rule_name,
 };
+use plan_changes::ChangeFault;
 use plan_facts::{List, Memory, Schema, Text};
 use plan_rules::{Row, RuleDef};
 use plan_scores::{PlanScore, Score};
@@ -20,6 +23,25 @@ pub enum Line {
     /// A leg begins at a boundary.
     Leg {
         boundary: u32,
+    },
+    /// A change of a fact was made: the number of its line in the feed, the boundary, and the fact.
+    Applied {
+        line: u32,
+        boundary: u32,
+        class: u8,
+        id: u32,
+    },
+    /// A change of a rule's weight was made.
+    AppliedRule {
+        line: u32,
+        boundary: u32,
+        rule: u8,
+    },
+    /// A change was refused, for another fault than want of memory, which has no words.
+    Refused {
+        line: u32,
+        boundary: u32,
+        fault: ChangeFault,
     },
     /// An entity was placed: what each of its variables holds, and the score after it.
     Place {
@@ -212,6 +234,22 @@ fn put_line(
     match line {
         Line::Run { domain } => put_named(out, b"run ", domain.as_slice()),
         Line::Leg { boundary } => put_leg(out, *boundary),
+        Line::Applied {
+            line,
+            boundary,
+            class,
+            id,
+        } => put_applied(out, schema, *line, *boundary, *class, *id),
+        Line::AppliedRule {
+            line,
+            boundary,
+            rule,
+        } => put_applied_rule(out, rules, *line, *boundary, *rule),
+        Line::Refused {
+            line,
+            boundary,
+            fault,
+        } => put_refused(out, schema, rules, *line, *boundary, *fault),
         Line::Place {
             class,
             id,

@@ -1,7 +1,8 @@
 ghost use Rattle.std.specs.Prelude.{◌≡◌, decimal};
 ghost use Rattle.plan_reports.specs.Puts.{Puts};
 ghost use Rattle.plan_rules.specs.Named.{rule_name};
-ghost use Rattle.plan_reports.specs.Lines.{class_name, variables_of, fact_text, value_text, variable_text, variables_text, part_text, row_text, entity_text};
+ghost use Rattle.plan_reports.specs.Facts.{class_name, fact_text};
+ghost use Rattle.plan_reports.specs.Lines.{variables_of, value_text, variable_text, variables_text, part_text, row_text, entity_text};
 ghost use Rattle.plan_scores.specs.Text.{score_text, plan_score_text};
 
 use itoa::Buffer;
@@ -39,7 +40,7 @@ pub fn put_plan_score(out: &mut Vec<u8>, score: &PlanScore) -> Result<(), Memory
 }
 
 /// The name of a class; no bytes where there is no such class.
-fn class_name(schema: &Schema, class: u8) -> &[u8]
+pub fn class_name(schema: &Schema, class: u8) -> &[u8]
     ensures { result.now ≡ class_name schema.now class }
 {
     match schema.class(class) {

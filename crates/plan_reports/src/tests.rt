@@ -1,4 +1,5 @@
 use super::*;
+use plan_changes::{ChangeFault, Spot};
 use plan_facts::{Kind, List, Memory, Rec, Text};
 use plan_rules::{Head, Part, Row, RuleDef};
 use plan_scores::{Level, PlanScore, Score};
@@ -122,6 +123,120 @@ fn each_line_has_its_text(rt: HostRuntime) -> Result<(), Fail> {
     }
     let wanted =
         b"run timetable\nleg 0\nplace lesson#1 slot=1 room=2 -2init/0hard/0medium/0soft\nstuck lesson#2\nstart -1hard/0medium/0soft\nbest -1hard/0medium/0soft\nlesson#2 slot=- room=1\nrule room_conflict 1 -1hard/0medium/0soft\nmatch -1hard/0medium/0soft lesson#1 -7\nend\nscore -2init/0hard/0medium/0soft\n";
+    assert_eq!(rt; out.as_slice(), wanted.as_slice());
+    Ok(())
+}
+
+/// Each fault of a change, with the line of a change that was refused for it.
+const REFUSED: &[(ChangeFault, &str)] = &[
+    (
+        ChangeFault::Syntax(Spot::Json),
+        "change 7 3 refused syntax json\n",
+    ),
+    (
+        ChangeFault::Syntax(Spot::Object),
+        "change 7 3 refused syntax object\n",
+    ),
+    (
+        ChangeFault::Syntax(Spot::Do),
+        "change 7 3 refused syntax do\n",
+    ),
+    (
+        ChangeFault::Syntax(Spot::Class),
+        "change 7 3 refused syntax class\n",
+    ),
+    (
+        ChangeFault::Syntax(Spot::Id),
+        "change 7 3 refused syntax id\n",
+    ),
+    (
+        ChangeFault::Syntax(Spot::Fields),
+        "change 7 3 refused syntax fields\n",
+    ),
+    (
+        ChangeFault::Syntax(Spot::Values),
+        "change 7 3 refused syntax values\n",
+    ),
+    (
+        ChangeFault::Syntax(Spot::Rule),
+        "change 7 3 refused syntax rule\n",
+    ),
+    (
+        ChangeFault::Syntax(Spot::Weight),
+        "change 7 3 refused syntax weight\n",
+    ),
+    (
+        ChangeFault::Syntax(Spot::Member),
+        "change 7 3 refused syntax member\n",
+    ),
+    (ChangeFault::LongLine, "change 7 3 refused long_line\n"),
+    (
+        ChangeFault::UnknownClass,
+        "change 7 3 refused unknown_class\n",
+    ),
+    (
+        ChangeFault::NoSuchFact { id: 9 },
+        "change 7 3 refused no_such_fact\n",
+    ),
+    (ChangeFault::BadField, "change 7 3 refused bad_field\n"),
+    (ChangeFault::BadValue, "change 7 3 refused bad_value\n"),
+    (
+        ChangeFault::TooManyFacts,
+        "change 7 3 refused too_many_facts\n",
+    ),
+    (
+        ChangeFault::RangeProduct { class: 2 },
+        "change 7 3 refused range_product lesson\n",
+    ),
+    (
+        ChangeFault::RowsBound { rule: 0 },
+        "change 7 3 refused rows_bound room_conflict\n",
+    ),
+    (ChangeFault::ScoreRange, "change 7 3 refused score_range\n"),
+    (
+        ChangeFault::UnknownRule,
+        "change 7 3 refused unknown_rule\n",
+    ),
+];
+
+#[test]
+fn each_refusal_has_its_words(rt: HostRuntime) -> Result<(), Fail> {
+    let alloc = rt.alloc();
+    let schema = schema_of(alloc, CLASSES)?;
+    let rules = rules(alloc)?;
+    for (fault, wanted) in REFUSED {
+        let mut out = Vec::new(alloc);
+        let line = Line::Refused {
+            line: 7,
+            boundary: 3,
+            fault: *fault,
+        };
+        write_line(&schema, rules.as_slice(), &line, &mut out)?;
+        assert_eq!(rt; out.as_slice(), wanted.as_bytes());
+    }
+    Ok(())
+}
+
+#[test]
+fn changes_that_were_made_have_their_lines(rt: HostRuntime) -> Result<(), Fail> {
+    let alloc = rt.alloc();
+    let schema = schema_of(alloc, CLASSES)?;
+    let rules = rules(alloc)?;
+    let mut out = Vec::new(alloc);
+    let fact = Line::Applied {
+        line: 1,
+        boundary: 0,
+        class: 1,
+        id: 2,
+    };
+    write_line(&schema, rules.as_slice(), &fact, &mut out)?;
+    let rule = Line::AppliedRule {
+        line: 12,
+        boundary: 34,
+        rule: 0,
+    };
+    write_line(&schema, rules.as_slice(), &rule, &mut out)?;
+    let wanted = b"change 1 0 applied room#2\nchange 12 34 applied rule room_conflict\n";
     assert_eq!(rt; out.as_slice(), wanted.as_slice());
     Ok(())
 }

@@ -1,1 +1,5 @@
+pub mod Ordered
+pub mod Totaled
+pub mod Turned
+pub mod Turning
 pub mod Worth

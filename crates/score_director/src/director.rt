@@ -181,3 +181,5 @@ impl<B: Book> Director<B> {
         Ok(Some(score))
     }
 }
+
+mod change;

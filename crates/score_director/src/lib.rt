@@ -2,6 +2,13 @@
 #![tactic(auto)]
 
 mod director;
+mod order;
 mod rows;
+mod sums;
 
 pub use director::Director;
+pub use order::put_in_order;
+pub use sums::score_of_totals;
+
+#[cfg(test)]
+mod tests;

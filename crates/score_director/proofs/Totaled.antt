@@ -1,0 +1,160 @@
+-- The score of rules from the sums of their match weights.
+use Rattle.std.proofs.Common.{◌≡◌, ◌∙◌, ◌+◌, ◌*◌, ◌<◌, ◌≤◌, ◌^◌, ℕ, ℤ, Bool, true, false, pos, ◌+ℤ◌, neg_ℤ, negsuc, zero, suc, List, [], ◌∷◌, map, zip, drop, get_or, length, refl, sym, ap, subst, arith, if◌then◌else◌}
+use Rattle.std.specs.Prelude.{All, FitsSigned}
+use Rattle.std.specs.Int.{saturate_signed, w64}
+use Rattle.std.proofs.lemmas.List.{drop_more, drop_all}
+use Rattle.std.proofs.lemmas.List.Elements.{All-head, All-tail}
+use Rattle.std.proofs.lemmas.List.Sums.{sum_by-cons, sum_by-le}
+use Rattle.std.proofs.Math.Nat.{mul-le-mul_left, mul-le-mul_right}
+use Rattle.plan_scores.specs.declared.level.Level.{Level}
+use Rattle.plan_scores.specs.declared.level.Level.TheVariants.{Hard, Medium, Soft}
+use Rattle.plan_scores.specs.declared.score.Score.{Score}
+use Rattle.plan_scores.specs.Sum.{FitsScore, IsWithin, add_scores, score_at, sum_of, zero_score}
+use Rattle.plan_scores.proofs.Summed.{FitsScore-within, IsWithin-add_scores, add_scores-zero, add_scores_assoc, zero-add_scores}
+use Rattle.plan_rules.specs.declared.rule.RuleDef.{RuleDef}
+use Rattle.plan_rules.specs.Limits.{score_limit}
+use Rattle.plan_rules.specs.Meaning.{Meaning}
+use Rattle.plan_rules.specs.Laws.{rule_impact}
+use Rattle.plan_rules.specs.Range.{AreWithin, Capped, cap_of, impact_bound, rule_bound, score_bound, weighed}
+use Rattle.plan_rules.specs.Rows.{Facts, rule_rows}
+use Rattle.plan_rules.specs.Totals.{match_weight, score_of, signed}
+use Rattle.plan_rules.proofs.Lengths.{length-rule_rows-le, score_in_range}
+use Rattle.plan_rules.proofs.Scores.{scores_are_of_rules}
+use Rattle.score_director.specs.Sums.{AreRuleTotals, IsCapped, IsScoreOfTotals, SumsUpTo, Totaled, impact_of_total, rule_total, size_of_total, sizes_of_totals, sum_of_totals, totaled, totaled_from}
+
+-- a number that fits is its own nearest
+pub saturated : (z : ℤ) → FitsSigned w64 z → saturate_signed w64 z ≡ z
+saturated (pos n) fits = ap pos (omega (arith, fits.sfits))
+saturated (negsuc n) fits = ap negsuc (omega (arith, fits.sfits))
+
+-- nor does a sum of two that fit change, whatever else stands for them
+pub saturated_sum : (a b one other : ℤ) → one ≡ a → other ≡ b → FitsSigned w64 (a +ℤ b) → saturate_signed w64 (one +ℤ other) ≡ a +ℤ b
+saturated_sum a b one other is is' fits = (λ i. saturate_signed w64 (is i +ℤ is' i)) ∙ saturated (a +ℤ b) fits
+
+signed_within : (reward : Bool) (level : Level) (n : ℕ) → IsWithin n (score_at level (if reward then pos n else neg_ℤ (pos n)))
+signed_within true Hard n = record { hard = omega arith; medium = omega arith; soft = omega arith }
+signed_within true Medium n = record { hard = omega arith; medium = omega arith; soft = omega arith }
+signed_within true Soft n = record { hard = omega arith; medium = omega arith; soft = omega arith }
+signed_within false Hard zero = record { hard = omega arith; medium = omega arith; soft = omega arith }
+signed_within false Hard (suc n) = record { hard = omega arith; medium = omega arith; soft = omega arith }
+signed_within false Medium zero = record { hard = omega arith; medium = omega arith; soft = omega arith }
+signed_within false Medium (suc n) = record { hard = omega arith; medium = omega arith; soft = omega arith }
+signed_within false Soft zero = record { hard = omega arith; medium = omega arith; soft = omega arith }
+signed_within false Soft (suc n) = record { hard = omega arith; medium = omega arith; soft = omega arith }
+
+-- nothing is added up yet
+pub sums_begin : (ones : List Totaled) (score : Score) → score ≡ zero_score → sizes_of_totals ones ≤ score_limit → SumsUpTo (sum_of_totals ones) ones score
+sums_begin ones score is few =
+    let zero_sums : SumsUpTo (sum_of_totals ones) ones zero_score = record {
+      most = 0;
+      within = record { hard = omega arith; medium = omega arith; soft = omega arith };
+      few = omega (arith, few);
+      sum = zero-add_scores (sum_of_totals ones);
+    } in
+    subst (SumsUpTo (sum_of_totals ones) ones) (sym is) zero_sums
+
+-- the first of the rules to come is added
+pub sums_more : (whole : Score) (one : Totaled) (rest : List Totaled) (score impact next : Score)
+    → (size_of_total one < 2 ^ 63 → impact ≡ impact_of_total one)
+    → (FitsScore (add_scores score impact) → next ≡ add_scores score impact)
+    → SumsUpTo whole (one ∷ rest) score → SumsUpTo whole rest next
+sums_more whole one rest score impact next made added so_far =
+    let size : sizes_of_totals (one ∷ rest) ≡ size_of_total one + sizes_of_totals rest = sum_by-cons size_of_total one rest in
+    let few : so_far.most + size_of_total one + sizes_of_totals rest ≤ score_limit = omega (arith, size, so_far.few) in
+    let is : impact ≡ impact_of_total one = made (omega (arith, few)) in
+    let within : IsWithin (so_far.most + size_of_total one) (add_scores score (impact_of_total one)) =
+    IsWithin-add_scores so_far.most (size_of_total one) score (impact_of_total one) so_far.within (signed_within one.rule.reward one.rule.level (size_of_total one)) in
+    let fits : FitsScore (add_scores score (impact_of_total one)) = FitsScore-within _ _ within (omega (arith, few)) in
+    let next_is : next ≡ add_scores score (impact_of_total one) = added (subst (λ (s : Score). FitsScore (add_scores score s)) (sym is) fits) ∙ ap (add_scores score) is in
+    let grown : SumsUpTo whole rest (add_scores score (impact_of_total one)) = record {
+      most = so_far.most + size_of_total one;
+      within = within;
+      few = few;
+      sum = add_scores_assoc score (impact_of_total one) (sum_of_totals rest) ∙ so_far.sum;
+    } in
+    subst (SumsUpTo whole rest) (sym next_is) grown
+
+-- where no rule is to come, the score is the whole
+pub sums_end : (whole score : Score) (rest : List Totaled) → rest ≡ [] → SumsUpTo whole rest score → score ≡ whole
+sums_end whole score rest none so_far =
+    let summed : add_scores score (sum_of_totals []) ≡ whole = ap (λ (ones : List Totaled). add_scores score (sum_of_totals ones)) (sym none) ∙ so_far.sum in
+    sym (add_scores-zero score) ∙ summed
+
+-- the first of the rules from a place on, and those after it
+pub totaled_more : (rules : List RuleDef) (weights totals : List ℕ) (k : ℕ) (rule : RuleDef) → length weights ≡ length rules → length totals ≡ length rules → k < length rules → rule ≡ get_or rules k rule
+    → totaled_from rules weights totals k ≡ record { rule = rule; weight = get_or weights k 0; total = get_or totals k 0 } ∷ totaled_from rules weights totals (k + 1)
+totaled_more rules weights totals k rule each each' there read =
+    let later = totaled_from rules weights totals (k + 1) in
+    (λ i. totaled (drop_more rules k rule there i) (drop_more weights k 0 (omega (arith, each, there)) i) (drop_more totals k 0 (omega (arith, each', there)) i))
+    ∙ (λ i. record { rule = sym read i; weight = get_or weights k 0; total = get_or totals k 0 } ∷ later)
+
+pub totaled_end : (rules : List RuleDef) (weights totals : List ℕ) (k : ℕ) → length rules ≤ k → totaled_from rules weights totals k ≡ []
+totaled_end rules weights totals k end = ap (λ (rest : List RuleDef). totaled rest (drop k weights) (drop k totals)) (drop_all k rules end)
+
+-- one more rule is added to those before a place
+pub sums_next : (rules : List RuleDef) (weights totals : List ℕ) (k : ℕ) (rule : RuleDef) (whole score impact next : Score)
+    → length weights ≡ length rules → length totals ≡ length rules → k < length rules → rule ≡ get_or rules k rule
+    → (get_or weights k 0 * get_or totals k 0 < 2 ^ 63 → impact ≡ score_at rule.level (signed rule (get_or weights k 0 * get_or totals k 0)))
+    → (FitsScore (add_scores score impact) → next ≡ add_scores score impact)
+    → SumsUpTo whole (totaled_from rules weights totals k) score → SumsUpTo whole (totaled_from rules weights totals (k + 1)) next
+sums_next rules weights totals k rule whole score impact next each each' there read made added so_far =
+    let P : List Totaled → Type 0 = λ ones. SumsUpTo whole ones score in
+    sums_more whole (record { rule = rule; weight = get_or weights k 0; total = get_or totals k 0 }) (totaled_from rules weights totals (k + 1)) score impact next made added
+    (subst P (totaled_more rules weights totals k rule each each' there read) so_far)
+
+-- what rules add up to is their impacts among the facts, where the totals are theirs
+impacts_are : (m : Meaning) (facts : Facts) (rules : List RuleDef) (weights : List ℕ)
+    → map impact_of_total (totaled rules weights (map (rule_total m facts) rules)) ≡ map (λ pair. rule_impact m facts pair.0 pair.1) (zip rules weights)
+impacts_are m facts [] weights = refl
+impacts_are m facts (rule ∷ rest) [] = refl
+impacts_are m facts (rule ∷ rest) (weight ∷ weights) = ap (λ (later : List Score). rule_impact m facts rule weight ∷ later) (impacts_are m facts rest weights)
+
+-- a rule adds up to no more than its bound
+rule_within : (m : Meaning) (facts : Facts) (weighers : List Capped) (sizes : List ℕ) (rule : RuleDef) (weight : ℕ)
+    → AreWithin sizes facts → IsCapped m facts weighers rule → weight * rule_total m facts rule ≤ rule_bound sizes rule * weight * cap_of weighers rule
+rule_within m facts weighers sizes rule weight within capped =
+    let rows = rule_rows m facts rule in
+    let cap = cap_of weighers rule in
+    let summed : rule_total m facts rule ≤ length rows * cap = sum_by-le (match_weight m rule) cap rows capped in
+    let few = mul-le-mul_right cap (length-rule_rows-le m facts sizes rule within) in
+    let most : rule_total m facts rule ≤ rule_bound sizes rule * cap = omega (arith, summed, few) in
+    omega (arith, mul-le-mul_left weight most)
+
+-- and rules to no more than theirs
+sizes_within : (m : Meaning) (facts : Facts) (weighers : List Capped) (sizes : List ℕ) (rules : List RuleDef) (weights : List ℕ)
+    → AreWithin sizes facts → All (IsCapped m facts weighers) rules
+    → sizes_of_totals (totaled rules weights (map (rule_total m facts) rules)) ≤ score_bound sizes (weighed rules weights (map (cap_of weighers) rules))
+sizes_within m facts weighers sizes [] weights within capped = omega arith
+sizes_within m facts weighers sizes (rule ∷ rest) [] within capped = omega arith
+sizes_within m facts weighers sizes (rule ∷ rest) (weight ∷ weights) within capped =
+    let P : RuleDef → Type 0 = IsCapped m facts weighers in
+    let first = rule_within m facts weighers sizes rule weight within (All-head P rule rest capped) in
+    let later = sizes_within m facts weighers sizes rest weights within (All-tail P rule rest capped) in
+    let ones = totaled rest weights (map (rule_total m facts) rest) in
+    let bounds = weighed rest weights (map (cap_of weighers) rest) in
+    let sum = sum_by-cons size_of_total (record { rule = rule; weight = weight; total = rule_total m facts rule }) ones in
+    let bound = sum_by-cons (impact_bound sizes) (record { rule = rule; weight = weight; cap = cap_of weighers rule }) bounds in
+    omega (arith, first, later, sum, bound)
+
+-- the totals of rules that may judge are small enough
+pub totals_are_small : (m : Meaning) (facts : Facts) (weighers : List Capped) (sizes : List ℕ) (rules : List RuleDef) (weights totals : List ℕ)
+    → AreRuleTotals m facts weighers sizes rules weights totals → sizes_of_totals (totaled rules weights totals) ≤ score_limit
+totals_are_small m facts weighers sizes rules weights totals are =
+    let few = sizes_within m facts weighers sizes rules weights are.within are.capped in
+    let range = score_in_range sizes rules weights (map (cap_of weighers) rules) are.may.range in
+    subst (λ (ns : List ℕ). sizes_of_totals (totaled rules weights ns) ≤ score_limit) (sym are.are) (omega (arith, few, range))
+
+-- and they add up to the score
+pub totals_add_up : (m : Meaning) (facts : Facts) (weighers : List Capped) (sizes : List ℕ) (rules : List RuleDef) (weights totals : List ℕ)
+    → AreRuleTotals m facts weighers sizes rules weights totals → sum_of_totals (totaled rules weights totals) ≡ score_of m facts rules weights
+totals_add_up m facts weighers sizes rules weights totals are =
+    ap (λ (ns : List ℕ). sum_of_totals (totaled rules weights ns)) are.are
+    ∙ ap sum_of (impacts_are m facts rules weights)
+    ∙ sym (scores_are_of_rules m facts rules weights)
+
+-- a score that sums up to the whole of small totals is that of the facts
+pub score_is : (rules : List RuleDef) (weights totals : List ℕ) (score : Score)
+    → (sizes_of_totals (totaled rules weights totals) ≤ score_limit → score ≡ sum_of_totals (totaled rules weights totals))
+    → IsScoreOfTotals rules weights totals score
+score_is rules weights totals score whole m facts weighers sizes are =
+    whole (totals_are_small m facts weighers sizes rules weights totals are) ∙ totals_add_up m facts weighers sizes rules weights totals are

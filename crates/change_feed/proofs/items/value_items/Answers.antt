@@ -1,0 +1,13 @@
+use Rattle.std.proofs.Common.{◌≡◌, ◌∙◌, List, ◌++◌, append-nil, sym, ap, subst}
+use Rattle.serde_json.specs.View.{members_view}
+use Rattle.plan_changes.specs.Change.{AreValuesInOrder}
+use Rattle.change_feed.specs.Items.{value_items}
+use Rattle.change_feed.proofs.Entries.{Entry, values_in_order}
+use Rattle.change_feed.proofs.items.value_items.Goals as goal
+
+pub returns-clause-order : goal.returns-clause-order
+returns-clause-order c =
+    let entries = c.args.members.now.entries in
+    let none_left = ap (λ (es : List Entry). c.loop-key.items ++ value_items (members_view es)) (sym c.in-None.ensures.steps.0) in
+    let whole : c.loop-key.items ≡ value_items (members_view entries) = sym (append-nil c.loop-key.items) ∙ none_left ∙ c.loop-key.invariant in
+    subst AreValuesInOrder (sym whole) (values_in_order entries c.iter-key-items.ensures.ordered)

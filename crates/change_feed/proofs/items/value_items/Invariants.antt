@@ -1,0 +1,8 @@
+use Rattle.std.proofs.Common.{◌≡◌, ◌++◌}
+use Rattle.serde_json.specs.View.{members_view}
+use Rattle.change_feed.specs.Items.{value_items}
+use Rattle.change_feed.proofs.items.value_items.Given as goal
+
+-- the items so far, and then those of the members that are left
+abbrev pub invariant-loop-key : goal.invariant-loop-key
+invariant-loop-key l = l.items ++ value_items (members_view l.key-iterator) ≡ value_items (members_view l.members.entries)

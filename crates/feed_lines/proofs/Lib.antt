@@ -1,0 +1,4 @@
+pub mod Advancing
+pub mod Filling
+pub mod Firsts
+pub mod Splitting

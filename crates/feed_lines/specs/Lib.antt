@@ -1,0 +1,5 @@
+pub mod Given
+pub mod Limits
+pub mod Parts
+pub mod Reading
+pub mod Windows

@@ -1,5 +1,5 @@
 -- A network without records is one of its rules, and stands for no facts.
-use Rattle.std.proofs.Common.{◌≡◌, ◌<◌, ◌+◌, ◌∙◌, ℕ, zero, suc, add-one, Bool, true, false, List, [], ◌∷◌, ◌++◌, All, Option, None, Some, cond, get_or, length, map, take, refl, sym, ap, subst, arith}
+use Rattle.std.proofs.Common.{◌≡◌, ◌<◌, ◌≤◌, ◌+◌, ◌∙◌, ℕ, zero, suc, add-one, Bool, true, false, List, [], ◌∷◌, ◌++◌, All, Option, None, Some, cond, get_or, length, map, take, refl, sym, ap, subst, arith}
 use Rattle.std.specs.Prelude.{⊤, IfSome, slice_get}
 use Rattle.std.proofs.lemmas.Option.{slice_get-get_or}
 use Rattle.std.specs.FinMap as finmap
@@ -21,7 +21,7 @@ use Rattle.plan_rules.specs.declared.rule.RuleDef.{RuleDef}
 use Rattle.plan_rules.specs.Bags.{AreSame}
 use Rattle.plan_rules.specs.Faults.{rules_fault}
 use Rattle.plan_rules.specs.Meaning.{IsKeyNumber, Meaning}
-use Rattle.plan_rules.specs.Named.{head_class}
+use Rattle.plan_rules.specs.Named.{head_class, node_class}
 use Rattle.plan_rules.specs.Sound.{IsSound, IsSoundNode}
 use Rattle.plan_rules.proofs.Accepted.{sound_rules}
 use Rattle.tuple_store.specs.View.{StoreView}
@@ -278,7 +278,7 @@ none_held = record {
 }
 
 pub fresh_nets_stand : FreshNetsStandForNothing
-fresh_nets_stand m schema defs net is = (
+fresh_nets_stand m classes defs net is = (
   zip_weaker IsFreshRule IsNetOf fresh_is defs net.rules is.rules,
   record {
     takers = none;
@@ -340,18 +340,41 @@ module _ (changes : List ClassChange) (numbers : Numbers) where
 no_opened : (heads : StoreView (List Part)) → heads ≡ record { now = finmap.empty; base = finmap.empty; is_open = false } → heads.is_open ≡ true → ⊥
 no_opened heads is e = let closed = ap (λ (h : StoreView (List Part)). h.is_open) is in cc
 
+-- what is sound where there are so many classes is so where there are more
+more_node : (n k : ℕ) (numbers : Numbers) (d : Node) → n ≤ k → IsSoundNode n numbers d → IsSoundNode k numbers d
+more_node n k numbers d le sound = record {
+  class = more_class (node_class d) sound.class;
+  joiners = sound.joiners;
+  keys = sound.keys;
+  closures = sound.closures;
+}
+  where
+    more_class : (class : Option ℕ) → IfSome class (λ c. c < n) → IfSome class (λ c. c < k)
+    more_class None is = is
+    more_class (Some c) is = omega (arith, is, le)
+
+more_sound : (n k : ℕ) (numbers : Numbers) (def : RuleDef) → n ≤ k → IsSound n numbers def → IsSound k numbers def
+more_sound n k numbers def le sound = record {
+  weight = sound.weight;
+  few_nodes = sound.few_nodes;
+  room = sound.room;
+  head = record { class = omega (arith, sound.head.class, le); joiners = sound.head.joiners; closures = sound.head.closures };
+  nodes = λ j d within. more_node n k numbers (get_or def.nodes j d) le (sound.nodes j d within);
+  weigher = sound.weigher;
+}
+
 -- what always holds of a network holds of one without records
 pub fresh_net : (schema : List ClassDef) (numbers : Numbers) (defs : List RuleDef) (harders : List Harder)
     → (heads : StoreView (List Part)) (nets : List RuleNet) (changes : List ClassChange) (found : List RuleAhead)
     → rules_fault schema numbers defs harders ≡ None
     → heads ≡ record { now = finmap.empty; base = finmap.empty; is_open = false }
-    → length changes ≡ length schema → AllZip IsFreshRule defs nets → AllZip HasPlaces nets found
+    → length schema ≤ length changes → AllZip IsFreshRule defs nets → AllZip HasPlaces nets found
     → IsNet heads nets changes found false
 fresh_net schema numbers defs harders heads nets changes found accepted none_yet classes fresh places = record {
   places = places;
   known =
       zip_right IsFreshRule (IsSound (length changes) numbers) (KnowsClasses changes changes) (rule_known changes numbers) defs nets
-      (subst (λ (n : ℕ). All (IsSound n numbers) defs) (sym classes) (sound_rules schema numbers defs harders accepted)) fresh;
+      (λ k d within. more_sound (length schema) (length changes) numbers (get_or defs k d) classes (sound_rules schema numbers defs harders accepted k d within)) fresh;
   opened = λ e. absurd (no_opened heads none_yet e);
   idle = λ e. zip_all_right IsRuleIdle fresh_idle;
   whole = λ e. zip_all_right IsRuleWhole fresh_rule_whole;

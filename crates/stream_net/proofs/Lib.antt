@@ -14,6 +14,7 @@ pub mod NetLaws
 pub mod NodeLaws
 pub mod RuleLaws
 pub mod RuleSteps
+pub mod Standing
 pub mod Stays
 pub mod Ways
 pub mod Widths

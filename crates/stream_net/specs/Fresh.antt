@@ -1,8 +1,7 @@
 -- The nodes of rules without rows.
-use Rattle.std.specs.Prelude.{◌≡◌, ◌++◌, ℕ, Bool, false, List, [], ◌∷◌, length, map}
+use Rattle.std.specs.Prelude.{◌≡◌, ◌++◌, ℕ, Bool, false, List, [], ◌∷◌, map}
 use Rattle.std.specs.List.{AllZip}
 use Rattle.std.specs.FinMap as finmap
-use Rattle.plan_facts.specs.declared.record.ClassDef.{ClassDef}
 use Rattle.plan_rules.specs.declared.rule.Head.{Head}
 use Rattle.plan_rules.specs.declared.rule.Head.TheVariants as head
 use Rattle.plan_rules.specs.declared.rule.Node.{Node}
@@ -52,9 +51,9 @@ pub record IsFreshRule (def : RuleDef) (net : RuleNet) : Type 0 where
   pub nodes : net.nodes.items ≡ rule_nodes def
   pub end : net.end ≡ empty_end def.weigh
 
--- a network without records
-pub record IsFreshNet (schema : List ClassDef) (defs : List RuleDef) (net : NetView) : Type 0 where
-  pub classes : net.classes ≡ length schema
+-- a network for records of so many classes, without any
+pub record IsFreshNet (count : ℕ) (defs : List RuleDef) (net : NetView) : Type 0 where
+  pub classes : net.classes ≡ count
   pub heads : net.heads ≡ record { now = finmap.empty; base = finmap.empty; is_open = false }
   pub rules : AllZip IsFreshRule defs net.rules
   pub torn : net.is_torn ≡ false
@@ -65,6 +64,6 @@ no_facts class = []
 
 -- a network without records is one of the rules, and stands for no facts
 abbrev pub FreshNetsStandForNothing : Type 0
-FreshNetsStandForNothing = (m : Meaning) (schema : List ClassDef) (defs : List RuleDef) (net : NetView)
-    → IsFreshNet schema defs net
+FreshNetsStandForNothing = (m : Meaning) (classes : ℕ) (defs : List RuleDef) (net : NetView)
+    → IsFreshNet classes defs net
     → AreNetsOf defs net.rules × StandsForFacts m defs net.heads.now net.rules no_facts

@@ -8,5 +8,6 @@ pub mod NetCode
 pub mod NetState
 pub mod Nodes
 pub mod Rule
+pub mod Standing
 pub mod Stations
 pub mod Turning

@@ -165,13 +165,14 @@ fn no_changes(alloc: Global, classes: u8) -> Result<Vec<ClassChange>, Memory>
 impl Net {
     ghost use Rattle.stream_net.specs.Fresh.{IsFreshNet};
 
-    /// The network of rules, without any record and without an open trial.
-    pub fn new<B: Book>(alloc: Global, rules: &Rules<B>) -> Result<Net, Memory>
-        ensures { IfOk result (IsFreshNet rules.now.schema rules.now.defs) }
+    /// The network of rules for records of so many classes, without any record and without an open trial.
+    pub fn new<B: Book>(alloc: Global, rules: &Rules<B>, classes: u8) -> Result<Net, Memory>
+        requires { length rules.now.schema ≤ classes }
+        ensures { IfOk result (IsFreshNet classes rules.now.defs) }
     {
         let nets = rules_without_rows(alloc, rules)?;
         let found = places_of(alloc, &nets)?;
-        let changes = no_changes(alloc, rules.schema.classes())?;
+        let changes = no_changes(alloc, classes)?;
         Ok(Net {
             parts: Parts {
                 heads: Heads::new(alloc),

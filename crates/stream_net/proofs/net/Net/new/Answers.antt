@@ -1,4 +1,4 @@
-use Rattle.std.proofs.Common.{◌∙◌, List, subst}
+use Rattle.std.proofs.Common.{◌≤◌, ℕ, List, length, subst, sym}
 use Rattle.std.specs.List.{AllZip}
 use Rattle.stream_net.specs.declared.rule.RuleNet.{RuleNet}
 use Rattle.stream_net.specs.Rule.{HasPlaces}
@@ -11,4 +11,4 @@ invariant_of-result g c =
     let found = c.in_ok-found.found.items in
     let places = subst (λ (nets : List RuleNet). AllZip HasPlaces nets found) c.deref.ensures.value c.in_ok-found.ensures in
     fresh_net rules.schema rules.numbers rules.defs rules.harder c.new.result c.in_ok-nets.nets.items c.in_ok-changes.changes.items found
-    rules.accepted c.new.ensures (c.in_ok-changes.ensures ∙ c.classes.ensures.count) c.in_ok-nets.ensures places
+    rules.accepted c.new.ensures (subst (λ (n : ℕ). length rules.schema ≤ n) (sym c.in_ok-changes.ensures) c.requires) c.in_ok-nets.ensures places

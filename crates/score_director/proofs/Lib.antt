@@ -1,5 +1,10 @@
+pub mod AllKeys
+pub mod Fewer
+pub mod Led
 pub mod Ordered
+pub mod Readied
 pub mod Totaled
 pub mod Turned
 pub mod Turning
+pub mod Widened
 pub mod Worth

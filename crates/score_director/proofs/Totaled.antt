@@ -1,11 +1,9 @@
 -- The score of rules from the sums of their match weights.
-use Rattle.std.proofs.Common.{◌≡◌, ◌∙◌, ◌+◌, ◌*◌, ◌<◌, ◌≤◌, ◌^◌, ℕ, ℤ, Bool, true, false, pos, ◌+ℤ◌, neg_ℤ, negsuc, zero, suc, List, [], ◌∷◌, map, zip, drop, get_or, length, refl, sym, ap, subst, arith, if◌then◌else◌}
-use Rattle.std.specs.Prelude.{All, FitsSigned}
+use Rattle.std.proofs.Common.{◌≡◌, ◌∙◌, ◌+◌, ◌-◌, ◌*◌, ◌<◌, ◌≤◌, ◌^◌, ℕ, ℤ, Bool, true, false, pos, ◌+ℤ◌, neg_ℤ, negsuc, zero, suc, List, [], ◌∷◌, map, zip, drop, get_or, length, refl, sym, ap, subst, arith, if◌then◌else◌}
+use Rattle.std.specs.Prelude.{FitsSigned}
 use Rattle.std.specs.Int.{saturate_signed, w64}
-use Rattle.std.proofs.lemmas.List.{drop_more, drop_all}
-use Rattle.std.proofs.lemmas.List.Elements.{All-head, All-tail}
-use Rattle.std.proofs.lemmas.List.Sums.{sum_by-cons, sum_by-le}
-use Rattle.std.proofs.Math.Nat.{mul-le-mul_left, mul-le-mul_right}
+use Rattle.std.proofs.lemmas.List.{drop_more, drop_all, get_or_default}
+use Rattle.std.proofs.lemmas.List.Sums.{sum_by-cons}
 use Rattle.plan_scores.specs.declared.level.Level.{Level}
 use Rattle.plan_scores.specs.declared.level.Level.TheVariants.{Hard, Medium, Soft}
 use Rattle.plan_scores.specs.declared.score.Score.{Score}
@@ -15,12 +13,11 @@ use Rattle.plan_rules.specs.declared.rule.RuleDef.{RuleDef}
 use Rattle.plan_rules.specs.Limits.{score_limit}
 use Rattle.plan_rules.specs.Meaning.{Meaning}
 use Rattle.plan_rules.specs.Laws.{rule_impact}
-use Rattle.plan_rules.specs.Range.{AreWithin, Capped, cap_of, impact_bound, rule_bound, score_bound, weighed}
-use Rattle.plan_rules.specs.Rows.{Facts, rule_rows}
-use Rattle.plan_rules.specs.Totals.{match_weight, score_of, signed}
-use Rattle.plan_rules.proofs.Lengths.{length-rule_rows-le, score_in_range}
+use Rattle.plan_rules.specs.Rows.{Facts}
+use Rattle.plan_rules.specs.Totals.{signed}
 use Rattle.plan_rules.proofs.Scores.{scores_are_of_rules}
-use Rattle.score_director.specs.Sums.{AreRuleTotals, IsCapped, IsScoreOfTotals, SumsUpTo, Totaled, impact_of_total, rule_total, size_of_total, sizes_of_totals, sum_of_totals, totaled, totaled_from}
+use Rattle.stream_net.specs.Net.{weights_of}
+use Rattle.score_director.specs.Sums.{IsScoreOfTotals, SumsUpTo, Totaled, impact_of_total, size_of_total, sizes_of_totals, sum_of_totals, totaled, totaled_from}
 
 -- a number that fits is its own nearest
 pub saturated : (z : ℤ) → FitsSigned w64 z → saturate_signed w64 z ≡ z
@@ -104,57 +101,56 @@ sums_next rules weights totals k rule whole score impact next each each' there r
 
 -- what rules add up to is their impacts among the facts, where the totals are theirs
 impacts_are : (m : Meaning) (facts : Facts) (rules : List RuleDef) (weights : List ℕ)
-    → map impact_of_total (totaled rules weights (map (rule_total m facts) rules)) ≡ map (λ pair. rule_impact m facts pair.0 pair.1) (zip rules weights)
+    → map impact_of_total (totaled rules weights (weights_of m facts rules)) ≡ map (λ pair. rule_impact m facts pair.0 pair.1) (zip rules weights)
 impacts_are m facts [] weights = refl
 impacts_are m facts (rule ∷ rest) [] = refl
 impacts_are m facts (rule ∷ rest) (weight ∷ weights) = ap (λ (later : List Score). rule_impact m facts rule weight ∷ later) (impacts_are m facts rest weights)
 
--- a rule adds up to no more than its bound
-rule_within : (m : Meaning) (facts : Facts) (weighers : List Capped) (sizes : List ℕ) (rule : RuleDef) (weight : ℕ)
-    → AreWithin sizes facts → IsCapped m facts weighers rule → weight * rule_total m facts rule ≤ rule_bound sizes rule * weight * cap_of weighers rule
-rule_within m facts weighers sizes rule weight within capped =
-    let rows = rule_rows m facts rule in
-    let cap = cap_of weighers rule in
-    let summed : rule_total m facts rule ≤ length rows * cap = sum_by-le (match_weight m rule) cap rows capped in
-    let few = mul-le-mul_right cap (length-rule_rows-le m facts sizes rule within) in
-    let most : rule_total m facts rule ≤ rule_bound sizes rule * cap = omega (arith, summed, few) in
-    omega (arith, mul-le-mul_left weight most)
-
--- and rules to no more than theirs
-sizes_within : (m : Meaning) (facts : Facts) (weighers : List Capped) (sizes : List ℕ) (rules : List RuleDef) (weights : List ℕ)
-    → AreWithin sizes facts → All (IsCapped m facts weighers) rules
-    → sizes_of_totals (totaled rules weights (map (rule_total m facts) rules)) ≤ score_bound sizes (weighed rules weights (map (cap_of weighers) rules))
-sizes_within m facts weighers sizes [] weights within capped = omega arith
-sizes_within m facts weighers sizes (rule ∷ rest) [] within capped = omega arith
-sizes_within m facts weighers sizes (rule ∷ rest) (weight ∷ weights) within capped =
-    let P : RuleDef → Type 0 = IsCapped m facts weighers in
-    let first = rule_within m facts weighers sizes rule weight within (All-head P rule rest capped) in
-    let later = sizes_within m facts weighers sizes rest weights within (All-tail P rule rest capped) in
-    let ones = totaled rest weights (map (rule_total m facts) rest) in
-    let bounds = weighed rest weights (map (cap_of weighers) rest) in
-    let sum = sum_by-cons size_of_total (record { rule = rule; weight = weight; total = rule_total m facts rule }) ones in
-    let bound = sum_by-cons (impact_bound sizes) (record { rule = rule; weight = weight; cap = cap_of weighers rule }) bounds in
-    omega (arith, first, later, sum, bound)
-
--- the totals of rules that may judge are small enough
-pub totals_are_small : (m : Meaning) (facts : Facts) (weighers : List Capped) (sizes : List ℕ) (rules : List RuleDef) (weights totals : List ℕ)
-    → AreRuleTotals m facts weighers sizes rules weights totals → sizes_of_totals (totaled rules weights totals) ≤ score_limit
-totals_are_small m facts weighers sizes rules weights totals are =
-    let few = sizes_within m facts weighers sizes rules weights are.within are.capped in
-    let range = score_in_range sizes rules weights (map (cap_of weighers) rules) are.may.range in
-    subst (λ (ns : List ℕ). sizes_of_totals (totaled rules weights ns) ≤ score_limit) (sym are.are) (omega (arith, few, range))
-
--- and they add up to the score
-pub totals_add_up : (m : Meaning) (facts : Facts) (weighers : List Capped) (sizes : List ℕ) (rules : List RuleDef) (weights totals : List ℕ)
-    → AreRuleTotals m facts weighers sizes rules weights totals → sum_of_totals (totaled rules weights totals) ≡ score_of m facts rules weights
-totals_add_up m facts weighers sizes rules weights totals are =
-    ap (λ (ns : List ℕ). sum_of_totals (totaled rules weights ns)) are.are
+-- and that is the score
+pub score_is : (rules : List RuleDef) (weights totals : List ℕ) (score : Score) → score ≡ sum_of_totals (totaled rules weights totals) → IsScoreOfTotals rules weights totals score
+score_is rules weights totals score is m facts are =
+    is
+    ∙ ap (λ (ns : List ℕ). sum_of_totals (totaled rules weights ns)) are
     ∙ ap sum_of (impacts_are m facts rules weights)
     ∙ sym (scores_are_of_rules m facts rules weights)
 
--- a score that sums up to the whole of small totals is that of the facts
-pub score_is : (rules : List RuleDef) (weights totals : List ℕ) (score : Score)
-    → (sizes_of_totals (totaled rules weights totals) ≤ score_limit → score ≡ sum_of_totals (totaled rules weights totals))
-    → IsScoreOfTotals rules weights totals score
-score_is rules weights totals score whole m facts weighers sizes are =
-    whole (totals_are_small m facts weighers sizes rules weights totals are) ∙ totals_add_up m facts weighers sizes rules weights totals are
+-- what is left of the greatest sum once rules before a place are taken off
+pub record LeavesRoom (rules : List RuleDef) (weights totals : List ℕ) (place room : ℕ) : Type 0 where
+  pub within : room ≤ score_limit
+  pub left : sizes_of_totals (totaled rules weights totals) + room ≡ score_limit + sizes_of_totals (totaled_from rules weights totals place)
+
+-- where there is a place, there is a rule
+some_rule : (rules : List RuleDef) (k : ℕ) → k < length rules → RuleDef
+some_rule [] k within = absurd (omega (arith, within))
+some_rule (rule ∷ rest) k within = rule
+
+-- the first of the rules to come is taken off
+first_off : (rules : List RuleDef) (weights totals : List ℕ) (k room : ℕ) → length weights ≡ length rules → length totals ≡ length rules → k < length rules
+    → LeavesRoom rules weights totals k room
+    → sizes_of_totals (totaled rules weights totals) + room ≡ score_limit + (get_or weights k 0 * get_or totals k 0 + sizes_of_totals (totaled_from rules weights totals (k + 1)))
+first_off rules weights totals k room each each' there so_far =
+    let some = some_rule rules k there in
+    let one = get_or rules k some in
+    let d : one ≡ get_or rules k one = get_or_default rules k some one there in
+    let more = totaled_more rules weights totals k one each each' there d in
+    let size = ap sizes_of_totals more ∙ sum_by-cons size_of_total (record { rule = one; weight = get_or weights k 0; total = get_or totals k 0 }) (totaled_from rules weights totals (k + 1)) in
+    so_far.left ∙ ap (λ (n : ℕ). score_limit + n) size
+
+-- where the next is greater than what is left, the sum is too great
+pub too_great : (rules : List RuleDef) (weights totals : List ℕ) (k room size : ℕ) → length weights ≡ length rules → length totals ≡ length rules → k < length rules
+    → size ≤ get_or weights k 0 * get_or totals k 0 → room < size → LeavesRoom rules weights totals k room → score_limit < sizes_of_totals (totaled rules weights totals)
+too_great rules weights totals k room size each each' there most over so_far =
+    let off = first_off rules weights totals k room each each' there so_far in
+    omega (arith, off, most, over)
+
+pub room_left : (rules : List RuleDef) (weights totals : List ℕ) (k room size : ℕ) → length weights ≡ length rules → length totals ≡ length rules → k < length rules
+    → size ≡ get_or weights k 0 * get_or totals k 0 → size ≤ room → LeavesRoom rules weights totals k room → LeavesRoom rules weights totals (k + 1) (room - size)
+room_left rules weights totals k room size each each' there is fits so_far =
+    let off = first_off rules weights totals k room each each' there so_far in
+    record { within = omega (arith, so_far.within); left = omega (arith, off, is, fits) }
+
+-- where no rule is to come, the sum is small
+pub small_at_end : (rules : List RuleDef) (weights totals : List ℕ) (k room : ℕ) → length rules ≤ k → LeavesRoom rules weights totals k room → sizes_of_totals (totaled rules weights totals) ≤ score_limit
+small_at_end rules weights totals k room end so_far =
+    let none : sizes_of_totals (totaled_from rules weights totals k) ≡ 0 = ap sizes_of_totals (totaled_end rules weights totals k end) in
+    omega (arith, so_far.left, none)

@@ -9,11 +9,10 @@ use Rattle.plan_facts.specs.declared.record.Rec.{Rec}
 use Rattle.plan_facts.specs.Plan.{IsPlan, PlanView, class_of, records_of, resolved}
 use Rattle.plan_moves.specs.declared.edit.Set.{Set}
 use Rattle.plan_moves.specs.declared.edit.Touch.{Touch}
-use Rattle.plan_moves.specs.Edits.{AreInOrder, AreTouchesInOrder, applied, is_legal, touch_order, touched_by}
-use Rattle.plan_moves.proofs.Touched.{touched_in_order}
+use Rattle.plan_moves.specs.Edits.{AreTouchesInOrder, applied, is_legal, touch_order, touched_by}
 use Rattle.plan_rules.specs.Bags.{AreDifferent}
 use Rattle.plan_rules.proofs.ById.{plans_are_by_id}
-use Rattle.score_director.specs.Turns.{AreFacts, FactsTurn}
+use Rattle.head_changes.specs.Takers.{AreFacts, FactsTurn}
 use Rattle.score_director.proofs.Turned.{applied_sound, increasing, untouched_same}
 
 touch_order_total : IsTotalOrder touch_order
@@ -43,10 +42,10 @@ plans_are_facts plan sound = record {
 }
 
 -- a legal edit turns the records of a plan at the entities that it touches
-pub edit_turns_facts : (plan : PlanView) (sets : List Set) → IsPlan plan → is_legal plan sets ≡ true → AreInOrder sets
+pub edit_turns_facts : (plan : PlanView) (sets : List Set) → IsPlan plan → is_legal plan sets ≡ true → AreTouchesInOrder (touched_by sets)
     → FactsTurn (touched_by sets) (records_of plan) (records_of (applied plan sets))
 edit_turns_facts plan sets sound legal order = record {
-  differ = touches_differ (touched_by sets) (touched_in_order sets order);
+  differ = touches_differ (touched_by sets) order;
   old = plans_are_facts plan sound;
   new = plans_are_facts (applied plan sets) (applied_sound plan sets sound legal);
   same = λ class. untouched_same plan sets class sound legal;

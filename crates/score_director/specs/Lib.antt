@@ -1,6 +1,7 @@
+pub mod Changed
+pub mod Keys
 pub mod Ordered
+pub mod Refused
 pub mod Sums
-pub mod Turns
 pub mod View
 pub mod Worth
-pub mod Changed

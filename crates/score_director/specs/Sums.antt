@@ -1,13 +1,13 @@
 -- What rules make of the sums of their match weights.
-use Rattle.std.specs.Prelude.{◌≡◌, ◌≤◌, ◌+◌, ◌*◌, ℕ, List, All, map, sum_by, zip, drop}
+use Rattle.std.specs.Prelude.{◌≡◌, ◌≤◌, ◌+◌, ◌*◌, ℕ, List, map, sum_by, zip, drop}
 use Rattle.plan_scores.specs.declared.score.Score.{Score}
 use Rattle.plan_scores.specs.Sum.{IsWithin, add_scores, score_at, sum_of}
 use Rattle.plan_rules.specs.declared.rule.RuleDef.{RuleDef}
 use Rattle.plan_rules.specs.Limits.{score_limit}
 use Rattle.plan_rules.specs.Meaning.{Meaning}
-use Rattle.plan_rules.specs.Range.{AreWithin, Capped, MayJudge, cap_of}
-use Rattle.plan_rules.specs.Rows.{Facts, rule_rows}
-use Rattle.plan_rules.specs.Totals.{match_weight, score_of, signed}
+use Rattle.plan_rules.specs.Rows.{Facts}
+use Rattle.plan_rules.specs.Totals.{score_of, signed}
+use Rattle.stream_net.specs.Net.{weights_of}
 
 -- a rule with its weight and what its match weights add up to
 pub record Totaled : Type 0 where
@@ -47,24 +47,7 @@ pub record SumsUpTo (whole : Score) (rest : List Totaled) (score : Score) : Type
   pub few : most + sizes_of_totals rest ≤ score_limit
   pub sum : add_scores score (sum_of_totals rest) ≡ whole
 
--- what the match weights of a rule's rows add up to
-abbrev pub rule_total : Meaning → Facts → RuleDef → ℕ
-rule_total m facts rule = sum_by (match_weight m rule) (rule_rows m facts rule)
-
--- each row of the rule weighs at most the cap that the weighers give it
-abbrev pub IsCapped : Meaning → Facts → List Capped → RuleDef → Type 0
-IsCapped m facts weighers rule = All (λ row. match_weight m rule row ≤ cap_of weighers rule) (rule_rows m facts rule)
-
--- rules that may judge classes of these sizes have these totals among the facts
-pub record AreRuleTotals (m : Meaning) (facts : Facts) (weighers : List Capped) (sizes : List ℕ)
-    (rules : List RuleDef) (weights' totals : List ℕ) : Type 0 where
-  pub may : MayJudge rules (map (cap_of weighers) rules) weights' sizes
-  pub within : AreWithin sizes facts
-  pub capped : All (IsCapped m facts weighers) rules
-  pub are : totals ≡ map (rule_total m facts) rules
-
--- the score is that of any facts among which the rules have these totals
+-- the score is that of any facts among which the matches of the rules weigh so much
 abbrev pub IsScoreOfTotals : List RuleDef → List ℕ → List ℕ → Score → Type 0
 IsScoreOfTotals rules weights totals score =
-    (m : Meaning) (facts : Facts) (weighers : List Capped) (sizes : List ℕ)
-    → AreRuleTotals m facts weighers sizes rules weights totals → score ≡ score_of m facts rules weights
+    (m : Meaning) (facts : Facts) → totals ≡ weights_of m facts rules → score ≡ score_of m facts rules weights

@@ -1,19 +1,20 @@
-use crate::rows::rows_of;
+use crate::network::{Worth, foreseen, turned, worth_of};
+use crate::order::put_in_order;
 use plan_facts::{List, Memory, Plan, Schema};
 use plan_moves::Edit;
-use plan_recalc::{Totals, recalc};
 use plan_rules::{Book, Judges, Row, RuleDef, Rules, Steps, copy_rules};
 use plan_scores::PlanScore;
 use std::alloc::Global;
 use std::marker::{Model, PhantomData};
 use std::mem;
 use std::sync::ledger::Ledger;
+use stream_net::Net;
 
 /// What takes an attempt back: the edit that does, and what the plan was worth before.
 #[derive(Drop)]
 struct Attempt {
     back: Edit,
-    before: Totals,
+    before: PlanScore,
 }
 
 /// A plan under rules and weights, with its score and its matches, and at most one attempt at an edit in course. The
@@ -24,7 +25,8 @@ pub struct Director<B: Book> {
     rules: List<RuleDef>,
     weights: List<u32>,
     plan: Plan,
-    totals: Totals,
+    net: Net,
+    score: PlanScore,
     attempt: Option<Attempt>,
     of: PhantomData<B>,
 }
@@ -37,7 +39,7 @@ impl<B: Book> Model for Director<B> {
 
     ghost view = { λ d. seen_with d.rules d.weights d.plan d.attempt };
 
-    ghost invariant = { λ d. IsDirector B.meaning d.rules d.weights d.plan d.totals d.attempt };
+    ghost invariant = { λ d. IsDirector B.meaning d.rules d.weights d.plan d.net d.score d.attempt };
 }
 
 impl<B: Book> Director<B> {
@@ -57,13 +59,14 @@ impl<B: Book> Director<B> {
         requires { ⟦<Rules<B> as Judges>⟧.judges rules.now weights (sizes_of plan) }
         ensures { IfOk result (λ director. director ≡ at_rest rules.now.defs weights plan) }
     {
-        let totals = recalc(alloc, rules, &plan, weights.as_slice(), steps)?;
+        let Worth { net, score } = worth_of(alloc, rules, &plan, weights.as_slice(), steps)?;
         Ok(Director {
             alloc,
             rules: copy_rules(alloc, rules.defs.as_slice())?,
             weights,
             plan,
-            totals,
+            net,
+            score,
             attempt: None,
             of: PhantomData,
         })
@@ -73,7 +76,7 @@ impl<B: Book> Director<B> {
     pub fn score(&self) -> PlanScore
         ensures { result ≡ score_seen B.meaning self.now }
     {
-        self.totals.score
+        self.score
     }
 
     /// The plan as it is now, an attempt in course included.
@@ -95,8 +98,9 @@ impl<B: Book> Director<B> {
         requires { rule < length self.now.rules }
         ensures { IfOk result (λ rows. Some rows ≡ rows_seen B.meaning self.now rule) }
     {
-        let matches = self.totals.matches.as_slice()[rule as usize].as_slice();
-        Ok(rows_of(self.alloc, matches)?)
+        let mut rows = self.net.rows(rule)?;
+        put_in_order(&mut rows);
+        Ok(rows)
     }
 
     /// Applies an edit that is legal, and says what the plan is worth then. The attempt is in course until it is taken
@@ -116,21 +120,25 @@ impl<B: Book> Director<B> {
         ensures err { OnErr result (self.new ≡ self.old) }
     {
         let back = edit.inverse(&self.plan)?;
+        let keys = edit.touched()?;
         edit.apply(&mut self.plan);
-        match recalc(
+        self.net.begin();
+        match turned(
             self.alloc,
+            &mut self.net,
             rules,
             &self.plan,
+            keys.as_slice(),
             self.weights.as_slice(),
             steps,
         ) {
-            Ok(totals) => {
-                let score = totals.score;
-                let before = mem::replace(&mut self.totals, totals);
+            Ok(score) => {
+                let before = mem::replace(&mut self.score, score);
                 self.attempt = Some(Attempt { back, before });
                 Ok(score)
             }
             Err(fault) => {
+                self.net.rollback();
                 back.apply(&mut self.plan);
                 Err(fault)
             }
@@ -144,7 +152,8 @@ impl<B: Book> Director<B> {
     {
         if let Some(Attempt { back, before }) = mem::replace(&mut self.attempt, None) {
             back.apply(&mut self.plan);
-            self.totals = before;
+            self.net.rollback();
+            self.score = before;
         }
     }
 
@@ -153,6 +162,7 @@ impl<B: Book> Director<B> {
         requires { IsSome self.old.base }
         ensures { self.new ≡ kept self.old }
     {
+        self.net.commit();
         self.attempt = None;
     }
 
@@ -176,10 +186,22 @@ impl<B: Book> Director<B> {
         if !edit.doable(schema, &self.plan) {
             return Ok(None);
         }
-        let score = self.attempt(rules, edit, steps)?;
-        self.undo();
-        Ok(Some(score))
+        let back = edit.inverse(&self.plan)?;
+        let keys = edit.touched()?;
+        edit.apply(&mut self.plan);
+        let score = foreseen(
+            self.alloc,
+            &mut self.net,
+            rules,
+            &self.plan,
+            keys.as_slice(),
+            self.weights.as_slice(),
+            steps,
+        );
+        back.apply(&mut self.plan);
+        Ok(Some(score?))
     }
 }
 
 mod change;
+mod ready;

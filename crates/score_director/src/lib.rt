@@ -2,8 +2,8 @@
 #![tactic(auto)]
 
 mod director;
+mod network;
 mod order;
-mod rows;
 mod sums;
 
 pub use director::Director;

@@ -44,7 +44,7 @@ fn totals_are_weighed_and_added_up_level_by_level(rt: HostRuntime) -> Result<(),
     };
     assert_eq!(rt;
         score_of_totals(rules.as_slice(), &[10, 2, 1], &[3, 7, 4]),
-        wanted
+        Some(wanted)
     );
     Ok(())
 }

@@ -6,9 +6,9 @@ ghost use Rattle.plan_rules.specs.Range.{sizes_of};
 ghost use Rattle.score_director.specs.Changed.{changed};
 
 use super::Director;
+use crate::network::{Worth, worth_of};
 use plan_changes::Ready;
 use plan_facts::{List, Memory, Names, Plan};
-use plan_recalc::recalc;
 use plan_rules::{Book, Judges, Rules, Steps};
 use std::sync::ledger::Ledger;
 
@@ -55,11 +55,12 @@ impl<B: Book> Director<B> {
         let mut weights = self.weights.copy(self.alloc)?;
         let count = names.count();
         perform(ready, &mut plan, names, &mut weights)?;
-        match recalc(self.alloc, rules, &plan, weights.as_slice(), steps) {
-            Ok(totals) => {
+        match worth_of(self.alloc, rules, &plan, weights.as_slice(), steps) {
+            Ok(Worth { net, score }) => {
                 self.plan = plan;
                 self.weights = weights;
-                self.totals = totals;
+                self.net = net;
+                self.score = score;
                 Ok(())
             }
             Err(Memory) => {

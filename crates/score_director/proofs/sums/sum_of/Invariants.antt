@@ -1,7 +1,7 @@
 use Rattle.std.proofs.Common.{◌≤◌}
 use Rattle.plan_rules.specs.Limits.{score_limit}
 use Rattle.score_director.specs.Sums.{SumsUpTo, sizes_of_totals, sum_of_totals, totaled, totaled_from}
-use Rattle.score_director.proofs.sums.score_of_totals.Given as goal
+use Rattle.score_director.proofs.sums.sum_of.Given as goal
 
 -- where the totals are small, the score so far and the rules to come make up the whole
 abbrev pub invariant-loop-place : goal.invariant-loop-place

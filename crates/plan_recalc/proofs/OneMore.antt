@@ -2,7 +2,7 @@
 use Rattle.std.proofs.Common.{◌≡◌, ◌∙◌, ℕ, ◌+◌, ◌*◌, ◌<◌, ◌≤◌, List, [], ◌∷◌, ◌++◌, map, drop, get_or, length, ap, sym, subst, arith}
 use Rattle.std.specs.List.{flat_map}
 use Rattle.std.proofs.lemmas.List.{drop_more, drop_all, get_or-map, length-map, append_assoc, append-nil}
-use Rattle.std.proofs.lemmas.List.Sums.{sum_by-cons}
+use Rattle.std.proofs.lemmas.List.Sums.{sum_by-cons, sum_by_push}
 use Rattle.plan_facts.specs.declared.record.Rec.{Rec}
 use Rattle.plan_scores.specs.declared.score.Score.{Score}
 use Rattle.plan_scores.specs.Sum.{add_scores, sum_of}
@@ -15,8 +15,8 @@ use Rattle.plan_rules.specs.Rows.{Facts}
 use Rattle.plan_rules.specs.Range.{Capped, cap_of, rule_bound, impact_bound, score_bound, weighed}
 use Rattle.plan_rules.specs.Totals.{matches_of, all_matches, impacts_of, impact_sum, score_of}
 use Rattle.plan_recalc.specs.Facts.{facts_in, sizes_in}
-use Rattle.plan_recalc.specs.RulesFrom.{HasRoom, IsNext, LeavesRoom, bound_from, matches_from, score_from}
-use Rattle.plan_recalc.specs.Size.{impact_sizes, rule_size}
+use Rattle.plan_recalc.specs.RulesFrom.{HasRoom, IsNext, LeaveSize, LeavesRoom, bound_from, matches_from, score_from}
+use Rattle.plan_recalc.specs.Size.{all_sizes, impact_sizes, rule_size}
 use Rattle.plan_recalc.proofs.Sizes.{sum_within}
 
 -- the first of the rules from a place on, and those after it
@@ -93,3 +93,12 @@ pub room_in : (defs : List RuleDef) (caps weights sizes : List ℕ) (lists : Lis
 room_in defs caps weights sizes lists k score are room =
     let P : List ℕ → Type 0 = λ ns. LeavesRoom (bound_from defs caps weights ns k) score in
     subst P are room
+
+-- all impacts so far are small enough after those of one more rule
+pub all_sizes_more : (defs : List RuleDef) (caps weights sizes : List ℕ) (lists : List (List Rec)) (k : ℕ) (so_far grown : List (List Match)) (ms : List Match) → sizes_in lists ≡ sizes → grown ≡ so_far ++ ms ∷ [] →
+    all_sizes so_far + bound_from defs caps weights sizes k ≤ score_limit → LeaveSize defs caps weights lists k ms → all_sizes grown + bound_from defs caps weights sizes (k + 1) ≤ score_limit
+all_sizes_more defs caps weights sizes lists k so_far grown ms are pushed small next =
+    let P : List ℕ → Type 0 = λ ns. impact_sizes ms + bound_from defs caps weights ns (k + 1) ≤ bound_from defs caps weights ns k in
+    let here = subst P are next in
+    let size : all_sizes grown ≡ all_sizes so_far + impact_sizes ms = ap all_sizes pushed ∙ sum_by_push impact_sizes so_far ms in
+    omega (arith, size, here, small)

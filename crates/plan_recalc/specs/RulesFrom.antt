@@ -11,6 +11,7 @@ use Rattle.plan_rules.specs.Range.{score_bound, weighed}
 use Rattle.plan_rules.specs.Rows.{Facts}
 use Rattle.plan_rules.specs.Totals.{all_matches, score_of}
 use Rattle.plan_recalc.specs.Facts.{facts_in, sizes_in}
+use Rattle.plan_recalc.specs.Size.{impact_sizes}
 
 -- their matches
 abbrev pub matches_from : Meaning → Facts → List RuleDef → List ℕ → ℕ → List (List Match)
@@ -41,3 +42,9 @@ pub record LeavesRoom (bound : ℕ) (score : Score) : Type 0 where
 abbrev pub HasRoom : List RuleDef → List ℕ → List ℕ → List (List Rec) → ℕ → Score → Type 0
 HasRoom rules caps weights records place score =
     LeavesRoom (bound_from rules caps weights (sizes_in records) place) score
+
+-- matches of the rule at a place: what they and the later rules can add up to is no more than those from the place on can
+abbrev pub LeaveSize : List RuleDef → List ℕ → List ℕ → List (List Rec) → ℕ → List Match → Type 0
+LeaveSize rules caps weights records place matches =
+    impact_sizes matches + bound_from rules caps weights (sizes_in records) (place + 1)
+    ≤ bound_from rules caps weights (sizes_in records) place

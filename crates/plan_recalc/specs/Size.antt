@@ -17,6 +17,14 @@ impact_sizes matches = sum_by (λ one. score_size one.impact) matches
 abbrev pub AreWithin : ℕ → List Match → Type 0
 AreWithin most matches = impact_sizes matches ≤ most
 
+-- the sizes of all rules' impacts, added up
+abbrev pub all_sizes : List (List Match) → ℕ
+all_sizes matches = sum_by impact_sizes matches
+
+-- the impacts of all rules add up to so much at most
+abbrev pub AreAllWithin : ℕ → List (List Match) → Type 0
+AreAllWithin most matches = all_sizes matches ≤ most
+
 -- as much as a row of a rule can add up to under a weight, where the weighers have these caps
 abbrev pub row_size : List Capped → RuleDef → ℕ → ℕ
 row_size weighers rule weight = weight * cap_of weighers rule

@@ -1,6 +1,8 @@
 ghost use Rattle.std.specs.Prelude.{◌≡◌, IfOk, map};
+ghost use Rattle.plan_rules.specs.Limits.{score_limit};
 ghost use Rattle.plan_rules.specs.Range.{sizes_of};
 ghost use Rattle.plan_rules.specs.Totals.{impact_sum, whole_score};
+ghost use Rattle.plan_recalc.specs.Size.{AreAllWithin};
 ghost use Rattle.plan_recalc.specs.Totals.{whole_matches};
 
 use crate::facts::Facts;
@@ -11,13 +13,15 @@ use plan_scores::{PlanScore, Score};
 use std::alloc::Global;
 use std::sync::ledger::Ledger;
 
-/// What a plan is worth: its score, the matches of each rule, and the sum of each rule's impacts.
+/// What a plan is worth: its score, the matches of each rule, and the sum of each rule's impacts. Even without their signs all
+/// impacts add up to 2^62 at most, so that the sum of any of them fits.
 #[derive(Drop)]
 pub struct Totals {
     pub score: PlanScore,
     pub matches: List<List<Match>>,
     pub impacts: List<Score>,
     pub ghost summed: { impacts ≡ map impact_sum matches },
+    pub ghost small: { AreAllWithin score_limit matches },
 }
 
 /// The score and all matches of the plan under these weights.

@@ -2,7 +2,7 @@ ghost use Rattle.std.specs.Prelude.{◌≡◌, ◌+◌, ◌<◌, IfOk, OnOk, len
 ghost use Rattle.plan_scores.specs.Sum.{add_scores};
 ghost use Rattle.plan_rules.specs.Totals.{impact_sum};
 ghost use Rattle.plan_recalc.specs.Facts.{sizes_in};
-ghost use Rattle.plan_recalc.specs.RulesFrom.{HasRoom, IsNext};
+ghost use Rattle.plan_recalc.specs.RulesFrom.{HasRoom, IsNext, LeaveSize};
 
 use crate::facts::Facts;
 use crate::matches::{impact_sum, rule_matches};
@@ -35,6 +35,8 @@ pub fn add_rule<B: Book, L: Ledger>(
     requires room { HasRoom rules.now.defs rules.now.caps weights.now facts.now place score.old }
     ensures matches { IfOk result (λ one. IsNext B.meaning facts.now rules.now.defs weights.now place one.matches) }
     ensures score { IfOk result (λ one. score.new ≡ add_scores score.old one.impact) }
+    ensures size { let sizes = LeaveSize rules.now.defs rules.now.caps weights.now facts.now place in
+        IfOk result (λ one. sizes one.matches) }
     ensures room { OnOk result (HasRoom rules.now.defs rules.now.caps weights.now facts.now (place + 1) score.new) }
 {
     let rule = &rules.defs.as_slice()[place];

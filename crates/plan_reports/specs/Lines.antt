@@ -60,6 +60,12 @@ sum_text name count impact =
 abbrev pub match_text : List ClassDef → Score → List Part → List ℕ
 match_text classes impact row = codes "match " ++ score_text impact ++ row_text classes row ++ codes "\n"
 
+-- the line of a fact that is a part of matches: in how many it stands, and the sum of their impacts
+abbrev pub indict_text : List ClassDef → ℕ → ℕ → ℕ → Score → List ℕ
+indict_text classes class id count impact =
+    codes "indict " ++ fact_text classes class id ++ codes " " ++ decimal count ++ codes " "
+    ++ score_text impact ++ codes "\n"
+
 -- the line of an entity that was placed: all its variables, and the score after it
 abbrev pub place_text : List ClassDef → ℕ → ℕ → List (Option ℕ) → PlanScore → List ℕ
 place_text classes class id values score =
@@ -80,6 +86,14 @@ step_text step winner score is_best =
     codes "step " ++ decimal step ++ codes " " ++ winner_text winner ++ codes " "
     ++ plan_score_text score ++ step_end winner is_best
 
+-- a word, a count and the end of the line
+abbrev pub counted_text : List ℕ → ℕ → List ℕ
+counted_text word count = word ++ decimal count ++ codes "\n"
+
+-- the first line of a tour: the number and the size of its problem
+abbrev pub tour_text : ℕ → ℕ → List ℕ
+tour_text number size = codes "tour " ++ decimal number ++ codes " " ++ decimal size ++ codes "\n"
+
 -- the text of a line, with its line feed
 abbrev pub line_text : List ClassDef → List RuleDef → Line → List ℕ
 line_text classes rules (line.Run domain) = codes "run " ++ domain ++ codes "\n"
@@ -97,6 +111,12 @@ line_text classes rules (line.Rule rule count impact) = sum_text (rule_name rule
 line_text classes rules (line.Match impact row) = match_text classes impact row
 line_text classes rules line.End = codes "end\n"
 line_text classes rules (line.Total score) = scored_text (codes "score ") score
+line_text classes rules (line.Indict class id count impact) = indict_text classes class id count impact
+line_text classes rules (line.Tour number size) = tour_text number size
+line_text classes rules (line.Facts count) = counted_text (codes "facts ") count
+line_text classes rules (line.Legs count) = counted_text (codes "legs ") count
+line_text classes rules (line.Steps count) = counted_text (codes "steps ") count
+line_text classes rules (line.Wins count) = counted_text (codes "won ") count
 
 -- the text of some lines
 abbrev pub lines_text : List ClassDef → List RuleDef → List Line → List ℕ

@@ -1,7 +1,7 @@
 ghost use Rattle.std.specs.Prelude.{◌++◌, codes, decimal};
 ghost use Rattle.plan_facts.specs.Append.{Appends};
 ghost use Rattle.plan_reports.specs.Facts.{fact_text};
-ghost use Rattle.plan_reports.specs.Lines.{entity_text, line_text, match_text, place_text, scored_text, step_end, step_text, sum_text, winner_text};
+ghost use Rattle.plan_reports.specs.Lines.{counted_text, entity_text, indict_text, line_text, match_text, place_text, scored_text, step_end, step_text, sum_text, tour_text, winner_text};
 ghost use Rattle.plan_reports.specs.Puts.{Puts};
 
 use crate::change::{put_applied, put_applied_rule, put_refused};
@@ -88,6 +88,26 @@ pub enum Line {
     End,
     /// The score of a plan as it was read.
     Total(PlanScore),
+    /// A fact that is a part of matches: in how many it stands, and the sum of their impacts.
+    Indict {
+        class: u8,
+        id: u32,
+        count: u64,
+        impact: Score,
+    },
+    /// The first line of a tour: the number and the size of the problem that was generated for it.
+    Tour {
+        number: u32,
+        size: u32,
+    },
+    /// How many live facts a tour ended with.
+    Facts(u32),
+    /// How many legs a tour had.
+    Legs(u32),
+    /// How many steps a tour did.
+    Steps(u32),
+    /// How many steps of a tour had a winner.
+    Wins(u32),
 }
 
 /// Appends a word, a text and the end of the line.
@@ -222,6 +242,46 @@ fn put_match(out: &mut Vec<u8>, schema: &Schema, impact: &Score, row: &Row) -> R
     put(out, b"\n")
 }
 
+/// Appends the line of a fact that is a part of matches.
+fn put_indict(
+    out: &mut Vec<u8>,
+    schema: &Schema,
+    class: u8,
+    id: u32,
+    count: u64,
+    impact: &Score,
+) -> Result<(), Memory>
+    ensures { Puts result out.old.items out.new.items (indict_text schema.now class id count impact.now) }
+{
+    put(out, b"indict ")?;
+    put_fact(out, schema, class, id)?;
+    put(out, b" ")?;
+    put_number(out, count)?;
+    put(out, b" ")?;
+    put_score(out, impact)?;
+    put(out, b"\n")
+}
+
+/// Appends the first line of a tour.
+fn put_tour(out: &mut Vec<u8>, number: u32, size: u32) -> Result<(), Memory>
+    ensures { Puts result out.old.items out.new.items (tour_text number size) }
+{
+    put(out, b"tour ")?;
+    put_number(out, u64::from(number))?;
+    put(out, b" ")?;
+    put_number(out, u64::from(size))?;
+    put(out, b"\n")
+}
+
+/// Appends a word, a count and the end of the line.
+fn put_counted(out: &mut Vec<u8>, word: &[u8], count: u32) -> Result<(), Memory>
+    ensures { Puts result out.old.items out.new.items (counted_text word.now count) }
+{
+    put(out, word)?;
+    put_number(out, u64::from(count))?;
+    put(out, b"\n")
+}
+
 /// Appends the text of a line.
 fn put_line(
     schema: &Schema,
@@ -276,6 +336,17 @@ fn put_line(
         Line::Match { impact, row } => put_match(out, schema, impact, row),
         Line::End => put(out, b"end\n"),
         Line::Total(score) => put_scored(out, b"score ", score),
+        Line::Indict {
+            class,
+            id,
+            count,
+            impact,
+        } => put_indict(out, schema, *class, *id, *count, impact),
+        Line::Tour { number, size } => put_tour(out, *number, *size),
+        Line::Facts(count) => put_counted(out, b"facts ", *count),
+        Line::Legs(count) => put_counted(out, b"legs ", *count),
+        Line::Steps(count) => put_counted(out, b"steps ", *count),
+        Line::Wins(count) => put_counted(out, b"won ", *count),
     }
 }
 

@@ -112,6 +112,41 @@ fn lines(alloc: Global) -> Result<List<Line>, Memory> {
     Ok(lines)
 }
 
+/// The lines of a tour, and that of a fact of two matches.
+fn push_tour(lines: &mut List<Line>) -> Result<(), Memory> {
+    lines.push(Line::Tour {
+        number: 7,
+        size: 200,
+    })?;
+    lines.push(Line::Facts(250))?;
+    lines.push(Line::Legs(1))?;
+    lines.push(Line::Steps(1000))?;
+    lines.push(Line::Wins(17))?;
+    lines.push(Line::Indict {
+        class: 2,
+        id: 1,
+        count: 2,
+        impact: hard(-3),
+    })
+}
+
+#[test]
+fn each_line_of_a_tour_has_its_text(rt: HostRuntime) -> Result<(), Fail> {
+    let alloc = rt.alloc();
+    let schema = schema_of(alloc, CLASSES)?;
+    let rules = rules(alloc)?;
+    let mut lines = List::new(alloc);
+    push_tour(&mut lines)?;
+    let mut out = Vec::new(alloc);
+    for line in lines.as_slice() {
+        write_line(&schema, rules.as_slice(), line, &mut out)?;
+    }
+    let wanted =
+        b"tour 7 200\nfacts 250\nlegs 1\nsteps 1000\nwon 17\nindict lesson#1 2 -3hard/0medium/0soft\n";
+    assert_eq!(rt; out.as_slice(), wanted.as_slice());
+    Ok(())
+}
+
 #[test]
 fn each_line_has_its_text(rt: HostRuntime) -> Result<(), Fail> {
     let alloc = rt.alloc();

@@ -5,6 +5,7 @@ use Rattle.plan_words.specs.declared.command.Command.{Command}
 use Rattle.plan_words.specs.declared.command.Command.TheVariants.{Solve, Replay, Score, Explain, Gen, Tour}
 use Rattle.plan_search.specs.Posed.{Posed}
 use Rattle.plan_search.specs.RunLines.{score_text, solve_text}
+use Rattle.plan_texts.specs.Explained.{explain_text}
 use Rattle.plan_session.specs.declared.task.Wanted.{Wanted}
 use Rattle.plan_session.specs.declared.task.Wanted.TheVariants as want
 
@@ -17,13 +18,13 @@ pub record Task : Type 0 where
 abbrev pub task : List ℕ → Wanted → Task
 task name wanted = record { name = name; wanted = wanted }
 
--- the commands that are built so far: `solve` without a feed, and `score`
+-- the commands that are built so far: `solve` without a feed, `score` and `explain`
 abbrev pub task_of : Command → Option Task
 task_of (Solve name None workers buffer) = Some (task name want.Solution)
 task_of (Solve name (Some feed) workers buffer) = None
 task_of (Replay name feed journal) = None
 task_of (Score name) = Some (task name want.Score)
-task_of (Explain name) = None
+task_of (Explain name) = Some (task name want.Explanation)
 task_of (Gen number size) = None
 task_of (Tour number size workers buffer) = None
 
@@ -48,3 +49,4 @@ generation_asked words = option_and_then generated_by (command words)
 abbrev pub text_wanted : Wanted → Posed → List ℕ
 text_wanted want.Solution = solve_text
 text_wanted want.Score = score_text
+text_wanted want.Explanation = explain_text

@@ -5,6 +5,7 @@ ghost use Rattle.plan_json.specs.Seen.{domain_view, domain_views};
 ghost use Rattle.plan_rules.specs.Range.{sizes_of};
 ghost use Rattle.plan_search.specs.RunLines.{score_text};
 ghost use Rattle.plan_settings.specs.Settings.{IsInRange};
+ghost use Rattle.plan_texts.specs.Explained.{explain_text};
 ghost use Rattle.plan_texts.specs.Posed.{posed_in};
 ghost use Rattle.plan_texts.specs.Printing.{Prints};
 ghost use Rattle.problem_faults.specs.Words.{refusal_line};
@@ -18,7 +19,7 @@ use plan_json::{Domain, Problem, read_problem};
 use plan_moves::MoveMaker as Maker;
 use plan_ports::Sink;
 use plan_rules::{Book, Judges, Kept, Rules};
-use plan_texts::{PrintFault, score_text, solve};
+use plan_texts::{PrintFault, explain_text, score_text, solve};
 use problem_faults::{ProblemFault, write_refusal};
 use std::alloc::Global;
 
@@ -67,6 +68,25 @@ fn respond_score<B: Book, K: Sink>(
     }
 }
 
+/// Writes what explains the score of a problem's plan as read.
+fn respond_explanation<B: Book, K: Sink>(
+    alloc: Global,
+    domain: &Domain<B>,
+    problem: Problem,
+    out: &mut K,
+) -> Status
+    requires judges { ⟦<Rules<B> as Judges>⟧.judges domain.now.rules problem.weights (sizes_of problem.plan) }
+    ensures ended { let makes = map (λ m. (⟦<dyn Maker as Maker>⟧ m.vtable).made m.value) domain.now.makers.items in
+        let posed = posed_in B.meaning makes (domain_view domain.now) (problem_view problem) in
+        Ended (Says Status.Ok (explain_text posed)) (K.state out.old) (K.state out.new) result }
+    ensures later { LaterSink (K.state out.old) (K.state out.new) }
+{
+    match explain_text(alloc, domain, problem) {
+        Ok(text) => say(out, Status::Ok, &text),
+        Err(_) => Status::Memory,
+    }
+}
+
 /// Writes what is wanted of a problem of this domain that was accepted.
 fn respond<B: Book, K: Sink>(
     alloc: Global,
@@ -85,6 +105,7 @@ fn respond<B: Book, K: Sink>(
     match wanted {
         Wanted::Solution => status_of(solve(alloc, domain, problem, out)),
         Wanted::Score => respond_score(alloc, domain, problem, out),
+        Wanted::Explanation => respond_explanation(alloc, domain, problem, out),
     }
 }
 

@@ -10,6 +10,8 @@ pub enum Wanted {
     Solution,
     /// The score of its plan as read.
     Score,
+    /// The score of its plan as read, each match, and the facts that are parts of matches.
+    Explanation,
 }
 
 /// The name of the problem that a command reads, and what it wants of it; none for a command that reads none, or that isn't
@@ -24,6 +26,7 @@ pub fn task_of(command: &Command) -> Option<(&[u8], Wanted)>
             ..
         } => Some((name.as_slice(), Wanted::Solution)),
         Command::Score { name } => Some((name.as_slice(), Wanted::Score)),
+        Command::Explain { name } => Some((name.as_slice(), Wanted::Explanation)),
         _ => None,
     }
 }

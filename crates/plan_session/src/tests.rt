@@ -160,6 +160,14 @@ rule any_lesson 1 -1hard/0medium/0soft
 end
 "#;
 
+/// What explains that.
+const EXPLAINED: &str = r#"score -2init/-1hard/0medium/0soft
+rule any_lesson 1 -1hard/0medium/0soft
+match -1hard/0medium/0soft lesson#4
+indict lesson#4 1 -1hard/0medium/0soft
+end
+"#;
+
 /// The smallest generated problem.
 const GENERATED: &str =
     r#"{"domain":"timetable","facts":{"lesson":[{"group":"G0","id":1,"size":20,"subject":"S0","teacher":"T0"}],"room":[{"capacity":30,"id":1}],"timeslot":[{"day":1,"end":540,"id":1,"start":480}]},"format":1,"settings":{"seed":0,"steps":5}}
@@ -235,8 +243,8 @@ const CASES: [Case; 10] = [
         problem: LESSONS,
         opens: &[],
         puts: &[],
-        text: "refused usage\n",
-        status: Status::Usage,
+        text: EXPLAINED,
+        status: Status::Ok,
     },
     Case {
         words: "",

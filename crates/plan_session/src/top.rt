@@ -54,7 +54,7 @@ fn perform<B: Book, S: Shelf, K: Sink>(
 
 /// Carries out what the words ask for: a problem is read from the shelf, and what is due for it is written to the
 /// sink. `solve NAME` prints the search of its plan, step by step, with the best plan and its score; `score NAME` the
-/// score of its plan as read; `gen NUMBER SIZE` prints a generated problem, and reads nothing. Other commands aren't built yet.
+/// score of its plan as read; `explain NAME` that with each match, and what each fact adds; `gen NUMBER SIZE` prints a generated problem, and reads nothing. Other commands aren't built yet.
 pub fn run<T: Threads + Wait + Sync, B: Book, S: Shelf, K: Sink + Send, G: Gate + Sync>(
     _rt: &T,
     alloc: Global,

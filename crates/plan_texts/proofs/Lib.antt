@@ -1,5 +1,6 @@
 pub mod Asking
 pub mod Begun
+pub mod Explained
 pub mod Grown
 pub mod Kept
 pub mod Placed

@@ -4,6 +4,7 @@
 mod best;
 mod deciding;
 mod events;
+mod explaining;
 mod fault;
 mod printing;
 mod report;
@@ -11,6 +12,7 @@ mod searching;
 mod steps;
 mod text;
 
+pub use explaining::explain_text;
 pub use fault::PrintFault;
 pub use searching::solve;
 pub use text::score_text;

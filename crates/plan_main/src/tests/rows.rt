@@ -222,6 +222,20 @@ end
         text: "score -4init/<Z>\n<TZ>\nend\n",
         status: Status::Ok,
     },
+    // Two lessons in one room at one time: each stands in the match.
+    Case {
+        words: "explain p",
+        problem: r#"<T><s1><R><r1><L>{"id":1,"subject":"Maths","teacher":"Ada","group":"9A","size":20,"slot":1,"room":1},{"id":2,"subject":"Physics","teacher":"Ben","group":"9B","size":20,"slot":1,"room":1}<E>"#,
+        text: r#"score -1hard/0medium/0soft
+rule room_conflict 1 -1hard/0medium/0soft
+match -1hard/0medium/0soft lesson#1 lesson#2
+<TZ1>
+indict lesson#1 1 -1hard/0medium/0soft
+indict lesson#2 1 -1hard/0medium/0soft
+end
+"#,
+        status: Status::Ok,
+    },
     // A pinned lesson stays where it is, and is counted.
     Case {
         words: "solve p",

@@ -6,7 +6,7 @@ use Rattle.plan_rules.specs.Range.{sizes_of}
 use Rattle.plan_rules.specs.Totals.{impact_sum, score_of}
 use Rattle.plan_recalc.specs.RulesFrom.{matches_from}
 use Rattle.plan_recalc.specs.Totals.{whole_matches}
-use Rattle.plan_recalc.proofs.OneMore.{matches_more, next_in, room_in, score_added, score_end}
+use Rattle.plan_recalc.proofs.OneMore.{matches_more, next_in, room_in, score_added, score_end, all_sizes_more}
 use Rattle.plan_recalc.proofs.calculator.recalc.Goals as goal
 
 pub loop-place-preserved : goal.loop-place-preserved
@@ -28,6 +28,8 @@ loop-place-preserved g c =
           ∙ ap (λ (so_far : List (List Match)). so_far ++ later) (sym c.in_ok-push.ensures.ok);
       score = score_added m f rules.defs weights k ms (score_of m f rules.defs weights) c.loop-place.score c.add_rule.new.score one.impact next invariant.score c.in_ok-one.ensures.score one.summed;
       room = room_in rules.defs rules.caps weights (sizes_of plan) lists (k + 1) c.add_rule.new.score c.in_ok-facts.ensures.sizes c.in_ok-one.ensures.room;
+      small = all_sizes_more rules.defs rules.caps weights (sizes_of plan) lists k c.loop-place.matches c.push.new.self ms c.in_ok-facts.ensures.sizes
+          c.in_ok-push.ensures.ok invariant.small c.in_ok-one.ensures.size;
       impacts = c.in_ok-push-2.ensures.ok ∙ (λ i. invariant.impacts i ++ one.summed i ∷ [])
           ∙ sym (map-append impact_sum c.loop-place.matches (ms ∷ [])) ∙ ap (map impact_sum) (sym c.in_ok-push.ensures.ok);
     }

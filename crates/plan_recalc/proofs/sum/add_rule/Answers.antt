@@ -74,3 +74,14 @@ returns-clause-room g c =
     let sum : c.impact_sum-impact.result ≡ impact_sum ms = c.impact_sum-impact.ensures ∙ ap impact_sum c.as_slice-2.ensures in
     let R : Score → Type 0 = LeavesRoom (bound_from rules.defs rules.caps weights (sizes_in c.args.facts.now) (k + 1)) in
     subst R (sym (c.add.ensures ∙ ap (add_scores c.args.score.now) sum)) room
+
+pub returns-clause-size : goal.returns-clause-size
+returns-clause-size g c =
+    let rules = c.args.rules.now in
+    let weights = c.args.weights.now in
+    let k = c.args.place in
+    let rule = c.index-as_slice-place.result in
+    let read : rule ≡ get_or rules.defs k rule = rw (← c.as_slice.ensures) (c.index-as_slice-place.is) in
+    let there' : k < length weights = rw (c.requires.judges.1.weights) (c.requires.there) in
+    let more = bound_from-more (capped rules.weighs) rules.defs rules.caps weights (sizes_in c.args.facts.now) k (get_or weights k 0) rule rules.caps_are c.requires.there there' read refl in
+    omega (arith, more, c.in_ok-matches.ensures.size)

@@ -13,3 +13,8 @@ pub returns-in-Score-clause-ended : goal.returns-in-Score-clause-ended
 returns-in-Score-clause-ended g c =
     ended_wanted g.B.Book.meaning _ want.Score c.args.wanted (domain_view c.args.domain.now) (problem_view c.args.problem) _ _ _ c.in-Score.is
     c.respond_score.ensures.ended
+
+pub returns-in-Explanation-clause-ended : goal.returns-in-Explanation-clause-ended
+returns-in-Explanation-clause-ended g c =
+    ended_wanted g.B.Book.meaning _ want.Explanation c.args.wanted (domain_view c.args.domain.now) (problem_view c.args.problem) _ _ _ c.in-Explanation.is
+    c.respond_explanation.ensures.ended

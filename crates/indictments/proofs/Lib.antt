@@ -1,0 +1,4 @@
+pub mod Counted
+pub mod PartLaws
+pub mod Room
+pub mod TallyLaws

@@ -1,0 +1,2 @@
+pub mod Indicts
+pub mod Tallies

@@ -14,7 +14,7 @@ use Rattle.plan_moves.specs.declared.edit.Touch.{Touch}
 use Rattle.plan_rules.specs.Range.{AreWithin, size_of, sizes_of}
 use Rattle.plan_rules.proofs.Rising.{All-flat_map, Rising, pairs_from_rising, rising-flat_map, rising-map, rising_from_pairs}
 use Rattle.head_changes.specs.Takers.{FactsTurn, is_key, is_keyed}
-use Rattle.stream_net.specs.Fresh.{no_facts}
+use Rattle.score_director.specs.Fresh.{no_facts}
 use Rattle.score_director.specs.Keys.{all_keys, keys_in}
 use Rattle.score_director.proofs.Turned.{increasing, record_ids}
 use Rattle.score_director.proofs.Turning.{plans_are_facts}

@@ -23,14 +23,14 @@ use Rattle.plan_rules.specs.Rows.{Facts, rule_rows}
 use Rattle.plan_rules.proofs.Sums.{same-trans}
 use Rattle.head_changes.specs.Takers.{FactsTurn}
 use Rattle.stream_heads.specs.Meant.{Rows}
-use Rattle.stream_net.specs.declared.rule.RuleNet.{RuleNet}
-use Rattle.stream_net.specs.Fresh.{IsFreshNet, no_facts}
-use Rattle.stream_net.specs.Net.{AreNetsOf, NetView, StandsForFacts, weights_of}
-use Rattle.stream_net.specs.NetState.{IsPlanInRange, IsSameNet, KeepsNet, NetBegan, NetCommitted, NetRolledBack, Turns}
-use Rattle.stream_net.specs.Rule.{IsNetOf}
-use Rattle.stream_net.specs.Standing.{AreRowsKept, HasRoomBeside, NetStands, StoodBefore, rows_kept, totals_of}
-use Rattle.stream_net.proofs.FreshLaws.{fresh_nets_stand}
-use Rattle.stream_net.proofs.Standing.{back_own, back_stands, begun_own, begun_stands, kept_own, kept_stands, stands_keep, stands_weigh}
+use Rattle.score_director.specs.declared.rule.RuleNet.{RuleNet}
+use Rattle.score_director.specs.Fresh.{IsFreshNet, no_facts}
+use Rattle.score_director.specs.Net.{AreNetsOf, NetView, StandsForFacts, weights_of}
+use Rattle.score_director.specs.NetState.{IsPlanInRange, IsSameNet, KeepsNet, NetBegan, NetCommitted, NetRolledBack, Turns}
+use Rattle.score_director.specs.Rule.{IsNetOf}
+use Rattle.score_director.specs.Standing.{AreRowsKept, HasRoomBeside, NetStands, StoodBefore, rows_kept, totals_of}
+use Rattle.score_director.proofs.FreshLaws.{fresh_nets_stand}
+use Rattle.score_director.proofs.Standing.{back_own, back_stands, begun_own, begun_stands, kept_own, kept_stands, stands_keep, stands_weigh}
 use Rattle.score_director.specs.Keys.{all_keys}
 use Rattle.score_director.specs.Ordered.{BecomeRuleRows}
 use Rattle.score_director.specs.Worth.{HasTurned, IsNetFor}

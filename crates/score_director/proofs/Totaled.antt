@@ -16,7 +16,7 @@ use Rattle.plan_rules.specs.Laws.{rule_impact}
 use Rattle.plan_rules.specs.Rows.{Facts}
 use Rattle.plan_rules.specs.Totals.{signed}
 use Rattle.plan_rules.proofs.Scores.{scores_are_of_rules}
-use Rattle.stream_net.specs.Net.{weights_of}
+use Rattle.score_director.specs.Net.{weights_of}
 use Rattle.score_director.specs.Sums.{IsScoreOfTotals, SumsUpTo, Totaled, impact_of_total, size_of_total, sizes_of_totals, sum_of_totals, totaled, totaled_from}
 
 -- a number that fits is its own nearest

@@ -7,7 +7,7 @@ use Rattle.plan_rules.specs.Limits.{score_limit}
 use Rattle.plan_rules.specs.Meaning.{Meaning}
 use Rattle.plan_rules.specs.Rows.{Facts}
 use Rattle.plan_rules.specs.Totals.{score_of, signed}
-use Rattle.stream_net.specs.Net.{weights_of}
+use Rattle.score_director.specs.Net.{weights_of}
 
 -- a rule with its weight and what its match weights add up to
 pub record Totaled : Type 0 where

@@ -10,9 +10,9 @@ use Rattle.plan_rules.specs.Meaning.{Meaning}
 use Rattle.plan_rules.specs.Rows.{Facts}
 use Rattle.plan_rules.specs.Totals.{whole_score}
 use Rattle.head_changes.specs.Takers.{FactsTurn}
-use Rattle.stream_net.specs.Net.{AreNetsOf, NetView}
-use Rattle.stream_net.specs.NetState.{is_open}
-use Rattle.stream_net.specs.Standing.{HasRoomBeside, NetStands, StoodBefore}
+use Rattle.score_director.specs.Net.{AreNetsOf, NetView}
+use Rattle.score_director.specs.NetState.{is_open}
+use Rattle.score_director.specs.Standing.{HasRoomBeside, NetStands, StoodBefore}
 use Rattle.score_director.specs.declared.director.Attempt.{Attempt}
 use Rattle.score_director.specs.View.{DirectorView}
 

@@ -1,3 +1,4 @@
+use crate::net::Net;
 use crate::network::{Worth, foreseen, turned, worth_of};
 use crate::order::put_in_order;
 use plan_facts::{List, Memory, Plan, Schema};
@@ -8,7 +9,6 @@ use std::alloc::Global;
 use std::marker::{Model, PhantomData};
 use std::mem;
 use std::sync::ledger::Ledger;
-use stream_net::Net;
 
 /// What takes an attempt back: the edit that does, and what the plan was worth before.
 #[derive(Drop)]

@@ -3,11 +3,12 @@ ghost use Rattle.std.specs.Prelude.{◌≡◌, ◌++◌, false, true, IfOk, OnOk
 ghost use Rattle.plan_facts.specs.Plan.{records_of};
 ghost use Rattle.plan_rules.specs.Range.{sizes_of};
 ghost use Rattle.plan_rules.specs.Totals.{whole_score};
-ghost use Rattle.stream_net.specs.Net.{AreNetsOf, weights_of};
-ghost use Rattle.stream_net.specs.NetState.{IsSameNet, KeepsNet, is_open};
+ghost use Rattle.score_director.specs.Net.{AreNetsOf, weights_of};
+ghost use Rattle.score_director.specs.NetState.{IsSameNet, KeepsNet, is_open};
 ghost use Rattle.score_director.specs.Keys.{all_keys, keys_in};
 ghost use Rattle.score_director.specs.Worth.{HasTurned, IsNetFor};
 
+use crate::net::Net;
 use crate::sums::score_of_totals;
 use plan_facts::{Memory, Plan};
 use plan_moves::Touch;
@@ -16,7 +17,6 @@ use plan_rules::{Book, Judges, Rules, Steps};
 use plan_scores::PlanScore;
 use std::alloc::Global;
 use std::sync::ledger::Ledger;
-use stream_net::Net;
 
 /// A network that stands for a plan, and what the plan is worth.
 #[derive(Drop)]

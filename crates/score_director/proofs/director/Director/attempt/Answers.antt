@@ -5,9 +5,9 @@ use Rattle.plan_moves.specs.Edits.{applied, is_legal}
 use Rattle.plan_rules.specs.declared.rule.RuleDef.{RuleDef}
 use Rattle.plan_rules.specs.Range.{MayJudge, sizes_of}
 use Rattle.plan_rules.specs.Totals.{whole_score}
-use Rattle.stream_net.specs.Net.{AreNetsOf}
-use Rattle.stream_net.specs.Standing.{StoodBefore}
-use Rattle.stream_net.proofs.Standing.{begun_before, kept_before}
+use Rattle.score_director.specs.Net.{AreNetsOf}
+use Rattle.score_director.specs.Standing.{StoodBefore}
+use Rattle.score_director.proofs.Standing.{begun_before, kept_before}
 use Rattle.score_director.specs.declared.director.Attempt.{Attempt}
 use Rattle.score_director.specs.View.{DirectorView}
 use Rattle.score_director.specs.Worth.{IsNetFor, KnowsBefore}

@@ -1,5 +1,0 @@
-use Rattle.std.proofs.Common.{length}
-use Rattle.stream_net.proofs.all.+begin_each.Given as goal
-
-abbrev pub decreases-begin_each : goal.decreases-begin_each
-decreases-begin_each l = length l.nets.now

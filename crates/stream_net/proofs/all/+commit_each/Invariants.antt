@@ -1,5 +1,0 @@
-use Rattle.std.proofs.Common.{length}
-use Rattle.stream_net.proofs.all.+commit_each.Given as goal
-
-abbrev pub decreases-commit_each : goal.decreases-commit_each
-decreases-commit_each l = length l.nets.now

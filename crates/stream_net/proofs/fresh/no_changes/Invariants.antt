@@ -1,6 +1,0 @@
-use Rattle.std.proofs.Common.{◌≡◌, length}
-use Rattle.stream_net.proofs.fresh.no_changes.Given as goal
-
--- as many changes as classes so far
-abbrev pub invariant-loop : goal.invariant-loop
-invariant-loop l = length l.changes.items ≡ l.counter

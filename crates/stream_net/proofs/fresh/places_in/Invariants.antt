@@ -1,6 +1,0 @@
-use Rattle.std.proofs.Common.{◌≡◌, length}
-use Rattle.stream_net.proofs.fresh.places_in.Given as goal
-
--- as many places as nodes so far
-abbrev pub invariant-loop : goal.invariant-loop
-invariant-loop l = length l.nodes.items ≡ l.counter

@@ -1,8 +1,0 @@
-use Rattle.std.proofs.Common.{take}
-use Rattle.std.specs.List.{AllZip}
-use Rattle.stream_net.specs.Rule.{HasPlaces}
-use Rattle.stream_net.proofs.fresh.places_of.Given as goal
-
--- those of the rules so far
-abbrev pub invariant-loop-net : goal.invariant-loop-net
-invariant-loop-net l = AllZip HasPlaces (take l.net-index l.nets) l.found.items

@@ -4,7 +4,7 @@ use Rattle.std.specs.Option.{option_and_then, option_map}
 use Rattle.std.proofs.lemmas.List.{length-replicate}
 use Rattle.std.proofs.lemmas.Option.{slice_get-get_or, slice_get-map}
 use Rattle.plan_ports.specs.Outside.{Holds, ShelfState, SinkState}
-use Rattle.plan_texts.specs.Posed.{posed_in}
+use Rattle.plan_session.specs.Posed.{posed_in}
 use Rattle.plan_rules.specs.Meaning.{Meaning}
 use Rattle.move_selectors.specs.Candidates.{Made}
 use Rattle.problem_faults.specs.declared.fault.ProblemFault.{ProblemFault}

@@ -1,2 +1,14 @@
+pub mod Asking
+pub mod Begun
 pub mod DueLaws
 pub mod EndingLaws
+pub mod Explained
+pub mod Grown
+pub mod Kept
+pub mod Placed
+pub mod Played
+pub mod Posing
+pub mod Printed
+pub mod Stepped
+pub mod WayBack
+pub mod Whole

@@ -7,7 +7,7 @@ use Rattle.problem_faults.specs.declared.fault.ProblemFault.{ProblemFault}
 use Rattle.problem_faults.specs.Words.{refusal_line}
 use Rattle.plan_json.specs.Domains.{DomainView}
 use Rattle.plan_json.specs.Problem.{ProblemView, problem_of}
-use Rattle.plan_texts.specs.Posed.{posed_in}
+use Rattle.plan_session.specs.Posed.{posed_in}
 use Rattle.plan_session.specs.declared.task.Wanted.{Wanted}
 use Rattle.plan_session.specs.declared.status.Status.{Status}
 use Rattle.plan_session.specs.declared.status.Status.TheVariants as status

@@ -1,4 +1,12 @@
+pub mod Asking
+pub mod Begun
+pub mod Course
 pub mod Due
 pub mod Ending
+pub mod Explained
+pub mod Posed
+pub mod Printing
 pub mod Status
 pub mod Task
+pub mod WayBack
+pub mod Writes

@@ -5,21 +5,24 @@ ghost use Rattle.plan_json.specs.Seen.{domain_view, domain_views};
 ghost use Rattle.plan_rules.specs.Range.{sizes_of};
 ghost use Rattle.plan_search.specs.RunLines.{score_text};
 ghost use Rattle.plan_settings.specs.Settings.{IsInRange};
-ghost use Rattle.plan_texts.specs.Explained.{explain_text};
-ghost use Rattle.plan_texts.specs.Posed.{posed_in};
-ghost use Rattle.plan_texts.specs.Printing.{Prints};
+ghost use Rattle.plan_session.specs.Explained.{explain_text};
+ghost use Rattle.plan_session.specs.Posed.{posed_in};
+ghost use Rattle.plan_session.specs.Printing.{Prints};
 ghost use Rattle.problem_faults.specs.Words.{refusal_line};
 ghost use Rattle.plan_session.specs.Due.{DueForBytes, DueForProblem};
 ghost use Rattle.plan_session.specs.Ending.{Ended, Says};
 
+use crate::explaining::explain_text;
+use crate::fault::PrintFault;
 use crate::outside::say;
+use crate::searching::solve;
 use crate::status::Status;
 use crate::task::Wanted;
+use crate::text::score_text;
 use plan_json::{Domain, Problem, read_problem};
 use plan_moves::MoveMaker as Maker;
 use plan_ports::Sink;
 use plan_rules::{Book, Judges, Kept, Rules};
-use plan_texts::{PrintFault, explain_text, score_text, solve};
 use problem_faults::{ProblemFault, write_refusal};
 use std::alloc::Global;
 

@@ -1,13 +1,23 @@
-//! Sessions: a command is read, its problem fetched and judged, and what is due is written.
+//! Sessions: a command is read, its problem fetched, judged and searched, and what is due is written, line by line.
 #![tactic(auto)]
 
 mod answer;
+mod best;
+mod deciding;
+mod events;
+mod explaining;
+mod fault;
 mod generate;
 mod outside;
+mod printing;
+mod report;
+mod searching;
 mod status;
+mod steps;
 mod task;
 #[cfg(test)]
 mod tests;
+mod text;
 mod top;
 
 pub use status::Status;

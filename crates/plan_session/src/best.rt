@@ -1,0 +1,59 @@
+ghost use Rattle.std.specs.Prelude.{◌≡◌, ◌∷◌, ◌++◌, [], IfOk, if◌then◌else◌};
+ghost use Rattle.plan_facts.specs.Plan.{PlanView};
+ghost use Rattle.plan_rules.specs.Range.{sizes_of};
+ghost use Rattle.plan_scores.specs.Order.{is_better_plan};
+ghost use Rattle.plan_session.specs.WayBack.{IsWayBack};
+
+use plan_facts::{Memory, Plan};
+use plan_moves::Edit;
+use plan_scores::PlanScore;
+use std::alloc::Global;
+
+/// The best plan of a leg so far: its score, and the edits that lead back to it from the plan as it is, the last one
+/// first. So nothing is copied when a plan is the best.
+#[derive(Drop)]
+pub struct BestSoFar {
+    pub score: PlanScore,
+    pub back: Vec<Edit>,
+}
+
+impl BestSoFar {
+    /// A leg begins, with this score.
+    pub fn begin(alloc: Global, score: PlanScore) -> BestSoFar
+        ensures score { result.score ≡ score }
+        ensures back { result.back.items ≡ [] }
+    {
+        BestSoFar {
+            score,
+            back: Vec::new(alloc),
+        }
+    }
+
+    /// The plan went on by what this edit takes back, to a plan of this score. Answers whether that is the best now.
+    pub fn went(&mut self, score: PlanScore, back: Edit) -> Result<bool, Memory>
+        ensures is_best { IfOk result (λ is_best. is_best ≡ is_better_plan score self.old.score) }
+        ensures score { IfOk result (λ is_best. self.new.score ≡ (if is_best then score else self.old.score)) }
+        ensures back { IfOk result (λ is_best.
+            self.new.back.items ≡ (if is_best then [] else self.old.back.items ++ back ∷ [])) }
+    {
+        if score > self.score {
+            self.score = score;
+            self.back.clear();
+            return Ok(true);
+        }
+        self.back.push(back)?;
+        Ok(false)
+    }
+}
+
+/// Leads a plan back to the best one, by these edits.
+pub fn lead_back(back: Vec<Edit>, plan: &mut Plan)
+    requires { (best : PlanView) × IsWayBack best back.items plan.old }
+    ensures best { (best : PlanView) → IsWayBack best back.items plan.old → plan.new ≡ best }
+    ensures sizes { sizes_of plan.new ≡ sizes_of plan.old }
+{
+    let mut back = back;
+    'edits: while let Some(edit) = back.pop() {
+        edit.apply(plan);
+    }
+}

@@ -17,6 +17,7 @@ pub mod NetLaws
 pub mod NodeLaws
 pub mod Ordered
 pub mod Readied
+pub mod Reweighed
 pub mod RuleLaws
 pub mod RuleSteps
 pub mod Standing

@@ -1,5 +1,5 @@
 //! What a plan is worth by the network that stands for it.
-ghost use Rattle.std.specs.Prelude.{◌≡◌, ◌++◌, false, true, IfOk, OnOk, length};
+ghost use Rattle.std.specs.Prelude.{◌≡◌, ◌++◌, false, true, IfOk, IfSome, OnOk, length};
 ghost use Rattle.plan_facts.specs.Plan.{records_of};
 ghost use Rattle.plan_rules.specs.Range.{sizes_of};
 ghost use Rattle.plan_rules.specs.Totals.{whole_score};
@@ -46,6 +46,25 @@ fn keys_of(alloc: Global, plan: &Plan) -> Result<Vec<Touch>, Memory>
     Ok(keys)
 }
 
+/// What the plan is worth whose rules weigh so much together; none where sums are as great as those of rules in range never
+/// are.
+fn score_by_totals<B: Book>(
+    rules: &Rules<B>,
+    plan: &Plan,
+    weights: &[u32],
+    totals: &[u64],
+) -> Option<PlanScore>
+    requires each { length weights.now ≡ length rules.now.defs }
+    requires totals { totals.now ≡ weights_of B.meaning (records_of plan.now) rules.now.defs }
+    ensures { IfSome result (λ score. score ≡ whole_score B.meaning rules.now.defs weights.now plan.now) }
+{
+    let score = score_of_totals(rules.defs.as_slice(), weights, totals)?;
+    Some(PlanScore {
+        unplaced: plan.unplaced(),
+        score,
+    })
+}
+
 /// What the plan is worth whose rules weigh so much together. Where sums are as great as those of rules in range never
 /// are, the slow calculator finds it.
 fn score_from<B: Book, L: Ledger>(
@@ -60,11 +79,8 @@ fn score_from<B: Book, L: Ledger>(
     requires totals { totals.now ≡ weights_of B.meaning (records_of plan.now) rules.now.defs }
     ensures { IfOk result (λ score. score ≡ whole_score B.meaning rules.now.defs weights.now plan.now) }
 {
-    match score_of_totals(rules.defs.as_slice(), weights, totals) {
-        Some(score) => Ok(PlanScore {
-            unplaced: plan.unplaced(),
-            score,
-        }),
+    match score_by_totals(rules, plan, weights, totals) {
+        Some(score) => Ok(score),
         None => score(alloc, rules, plan, weights, steps),
     }
 }
@@ -85,6 +101,24 @@ fn score_now<B: Book, L: Ledger>(
     let mut totals = Vec::new(alloc);
     net.weights(&mut totals)?;
     score_from(alloc, rules, plan, weights, &totals, steps)
+}
+
+/// What the plan is worth under these weights that the network stands for, as the network knows it: no closure is asked.
+/// Where sums are as great as those of rules in range never are, there is no room for the score.
+pub fn score_known<B: Book>(
+    alloc: Global,
+    net: &Net,
+    rules: &Rules<B>,
+    plan: &Plan,
+    weights: &[u32],
+) -> Result<PlanScore, Memory>
+    requires each { length weights.now ≡ length rules.now.defs }
+    requires network { IsNetFor B.meaning rules.now.defs plan.now net.now }
+    ensures { IfOk result (λ score. score ≡ whole_score B.meaning rules.now.defs weights.now plan.now) }
+{
+    let mut totals = Vec::new(alloc);
+    net.weights(&mut totals)?;
+    score_by_totals(rules, plan, weights, &totals).ok_or(Memory)
 }
 
 /// The network that stands for a plan.

@@ -1,6 +1,7 @@
 -- How reading sees a domain.
 use Rattle.std.specs.Prelude.{ℕ, ℤ, Bool, List, map, slice_get, IsSomeAnd}
 use Rattle.plan_rules.specs.Closures.{Boxed}
+use Rattle.plan_changes.specs.Fits.{IsOfSchema}
 use Rattle.plan_json.specs.Domains.{DomainView}
 use Rattle.plan_json.specs.Accepted.{IsAccepted}
 use Rattle.plan_json.specs.declared.domain.Domain.{Domain}
@@ -26,3 +27,7 @@ module _ {B X Y Z M : Type 0} {F : X → Type 0} {G : Y → Type 0} {H : Z → T
   abbrev pub IsAcceptedBy : List (Domain B X Y Z M F G H K of_tests of_keys of_weighs) → Problem → Type 0
   IsAcceptedBy domains p =
       IsSomeAnd (slice_get domains p.domain) (λ domain. IsAccepted domain.rules.defs domain.rules.caps p)
+
+  -- the problem's domain is one of these, and its plan is of that domain's schema
+  abbrev pub FitsItsDomain : List (Domain B X Y Z M F G H K of_tests of_keys of_weighs) → Problem → Type 0
+  FitsItsDomain domains p = IsSomeAnd (slice_get domains p.domain) (λ domain. IsOfSchema domain.schema p.plan)

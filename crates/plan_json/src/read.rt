@@ -1,11 +1,12 @@
 ghost use Rattle.std.specs.Prelude.{◌≡◌, IfOk, map, position};
 ghost use Rattle.std.specs.Str.{bytes_eq};
 ghost use Rattle.serde_json.specs.View.{view};
+ghost use Rattle.plan_changes.specs.Fits.{IsOfSchema};
 ghost use Rattle.problem_faults.specs.Refusals.{RefusesFor};
 ghost use Rattle.problem_settings.specs.Root.{format_of};
 ghost use Rattle.plan_json.specs.Accepted.{problem_view, Reads, IsAccepted};
 ghost use Rattle.plan_json.specs.Problem.{content_fault, facts_of, place_of_domain, problem_in, problem_of, problem_of_root};
-ghost use Rattle.plan_json.specs.Seen.{domain_view, domain_views, IsAcceptedBy};
+ghost use Rattle.plan_json.specs.Seen.{domain_view, domain_views, FitsItsDomain, IsAcceptedBy};
 
 use crate::domain::Domain;
 use crate::limits::check_limits;
@@ -44,6 +45,7 @@ fn read_content<B: Book>(
     ensures problem { let due = problem_in place (domain_view domain.now) (view root.now) in
         IfOk result (λ problem. problem_view problem ≡ due) }
     ensures accepted { IfOk result (IsAccepted domain.now.rules.defs domain.now.rules.caps) }
+    ensures schema { IfOk result (λ problem. IsOfSchema domain.now.schema problem.plan) }
 {
     let settings = read_settings(alloc, format, member(root, b"settings"))?;
     let defs = domain.rules.defs.as_slice();
@@ -94,6 +96,7 @@ fn read_root<B: Book>(
 ) -> Result<Problem, ProblemFault>
     ensures problem { Reads (problem_of_root (domain_views domains.now) (view root.now)) result }
     ensures accepted { IfOk result (IsAcceptedBy domains.now) }
+    ensures schema { IfOk result (FitsItsDomain domains.now) }
 {
     let format = check_root(alloc, root)?;
     let Some(place) = domain_of(domains, root) else {
@@ -111,6 +114,7 @@ pub fn read_problem<B: Book>(
 ) -> Result<Problem, ProblemFault>
     ensures problem { Reads (problem_of (domain_views domains.now) bytes.now) result }
     ensures accepted { IfOk result (IsAcceptedBy domains.now) }
+    ensures schema { IfOk result (FitsItsDomain domains.now) }
 {
     if bytes.len() > BYTE_LIMIT {
         return Err(ProblemFault::TooLong);

@@ -3,6 +3,7 @@ use Rattle.std.proofs.lemmas.Result.{err_from_is_err_and}
 use Rattle.serde_json.specs.View.{view}
 use Rattle.plan_json.specs.Seen.{domain_view}
 use Rattle.plan_json.proofs.ReadLaws.{content_read, few_weights, refused_as}
+use Rattle.plan_json.proofs.ReadPlans.{read_fits}
 use Rattle.plan_json.proofs.read.read_content.Goals as goal
 
 pub returns-in_err-check_limits-clause-refusal : goal.returns-in_err-check_limits-clause-refusal
@@ -30,3 +31,6 @@ returns-clause-accepted g c = record {
     range = c.in_ok-check_limits.ensures.range;
   };
 }
+
+pub returns-clause-schema : goal.returns-clause-schema
+returns-clause-schema g c = read_fits c.args.domain.now.schema (view c.facts_of.result.now) c.in_ok-records.records.plan c.in_ok-records.ensures.plan

@@ -27,27 +27,38 @@ range_rises : (a n : ℕ) → Rising (λ (k l : ℕ). k < l) (range_with_len a n
 range_rises a zero = tt
 range_rises a (suc n) = (range_from (suc a) (a + 1) n (omega arith), range_rises (a + 1) n)
 
-abbrev touch_at : ℕ → ℕ → Touch
+abbrev pub touch_at : ℕ → ℕ → Touch
 touch_at class id = record { class = class; id = id }
 
--- the keys of a class are different
-class_keys_differ : (plan : PlanView) (class : ℕ) → IsPlan plan → Rising (λ (one other : Touch). one ≢ other) (keys_in plan class)
-class_keys_differ plan class sound =
-    rising-map (λ (a b : ℕ). a < b) (λ (one other : Touch). one ≢ other) (λ id. record { class = class; id = id }) apart (ids_of plan class)
-    (rising_from_pairs (λ (a b : ℕ). a < b) (ids_of plan class) (increasing plan class sound))
+-- the keys of a class with different ids are different
+class_keys_differ : (ids : List ℕ) (class : ℕ) → Rising (λ (a b : ℕ). a < b) ids → Rising (λ (one other : Touch). one ≢ other) (map (λ id. touch_at class id) ids)
+class_keys_differ ids class rise =
+    rising-map (λ (a b : ℕ). a < b) (λ (one other : Touch). one ≢ other) (λ id. touch_at class id) apart ids rise
   where
     apart : (x y : ℕ) → x < y → touch_at class x ≢ touch_at class y
     apart x y below e = let i : x ≡ y = ap (λ (t : Touch). t.id) e in absurd (omega (arith, below, i))
 
 -- and so are those of different classes
-classes_apart : (plan : PlanView) (x y : ℕ) → x < y → All (λ (a : Touch). All (λ (b : Touch). a ≢ b) (keys_in plan y)) (keys_in plan x)
-classes_apart plan x y below =
-    All-map (λ (a : Touch). All (λ (b : Touch). a ≢ b) (keys_in plan y)) (λ id. record { class = x; id = id }) (ids_of plan x)
-    (λ k d within. All-map (λ (b : Touch). touch_at x (get_or (ids_of plan x) k d) ≢ b) (λ id. record { class = y; id = id }) (ids_of plan y)
+classes_apart : (ids : ℕ → List ℕ) (x y : ℕ) → x < y → All (λ (a : Touch). All (λ (b : Touch). a ≢ b) (map (λ id. touch_at y id) (ids y))) (map (λ id. touch_at x id) (ids x))
+classes_apart ids x y below =
+    All-map (λ (a : Touch). All (λ (b : Touch). a ≢ b) (map (λ id. touch_at y id) (ids y))) (λ id. touch_at x id) (ids x)
+    (λ k d within. All-map (λ (b : Touch). touch_at x (get_or (ids x) k d) ≢ b) (λ id. touch_at y id) (ids y)
     (λ j e there is. let i : x ≡ y = ap (λ (t : Touch). t.class) is in absurd (omega (arith, below, i))))
 
+-- the keys of increasing ids of each class are different
+pub keys_differ : (ids : ℕ → List ℕ) (count : ℕ) → ((class : ℕ) → Rising (λ (a b : ℕ). a < b) (ids class))
+    → Rising (λ (one other : Touch). one ≢ other) (flat_map (λ class. map (λ id. touch_at class id) (ids class)) (range_with_len 0 count))
+keys_differ ids count rise =
+    rising-flat_map (λ (k l : ℕ). k < l) (λ (one other : Touch). one ≢ other) (λ class. map (λ id. touch_at class id) (ids class)) (range_with_len 0 count) (range_rises 0 count)
+    (λ k d within. class_keys_differ (ids (get_or (range_with_len 0 count) k d)) (get_or (range_with_len 0 count) k d) (rise (get_or (range_with_len 0 count) k d)))
+    (classes_apart ids)
+
+-- the ids of each class of a plan increase
+pub ids_rise : (plan : PlanView) (class : ℕ) → IsPlan plan → Rising (λ (a b : ℕ). a < b) (ids_of plan class)
+ids_rise plan class sound = rising_from_pairs (λ (a b : ℕ). a < b) (ids_of plan class) (increasing plan class sound)
+
 -- one of many lists has a member that passes
-any_in : {X : Type 0} (p : X → Bool) (f : ℕ → List X) (a n k : ℕ) → a ≤ k → k < a + n → list_any p (f k) ≡ true → list_any p (flat_map f (range_with_len a n)) ≡ true
+pub any_in : {X : Type 0} (p : X → Bool) (f : ℕ → List X) (a n k : ℕ) → a ≤ k → k < a + n → list_any p (f k) ≡ true → list_any p (flat_map f (range_with_len a n)) ≡ true
 any_in p f a zero k low high is = absurd (omega (arith, low, high))
 any_in p f a (suc n) k low high is =
     let rest = flat_map f (range_with_len (a + 1) n) in
@@ -78,14 +89,14 @@ id_keyed (id ∷ ids) class rec (suc k) within is =
     or_true false = refl
 
 -- what doesn't pass is filtered out
-filters_none : {X : Type 0} (p : X → Bool) (xs : List X) → ((k : ℕ) (d : X) → k < length xs → p (get_or xs k d) ≡ true) → filter (λ x. not (p x)) xs ≡ []
+pub filters_none : {X : Type 0} (p : X → Bool) (xs : List X) → ((k : ℕ) (d : X) → k < length xs → p (get_or xs k d) ≡ true) → filter (λ x. not (p x)) xs ≡ []
 filters_none p [] all = refl
 filters_none p (x ∷ xs) all =
     ap (λ (b : Bool). cond (not b) (x ∷ filter (λ y. not (p y)) xs) (filter (λ y. not (p y)) xs)) (all 0 x (omega arith))
     ∙ filters_none p xs (λ k d within. all (suc k) d (omega (arith, within)))
 
 -- each record of a plan is at one of its keys
-keyed : (plan : PlanView) (class : ℕ) (k : ℕ) (d : Rec) → IsPlan plan → k < length (records_of plan class) → is_key (all_keys plan) class (get_or (records_of plan class) k d) ≡ true
+pub keyed : (plan : PlanView) (class : ℕ) (k : ℕ) (d : Rec) → IsPlan plan → k < length (records_of plan class) → is_key (all_keys plan) class (get_or (records_of plan class) k d) ≡ true
 unfolding records_of
 keyed plan class k d sound within =
     let rec = get_or (records_of plan class) k d in
@@ -105,8 +116,7 @@ pub all_turn : (plan : PlanView) → IsPlan plan → FactsTurn (all_keys plan) n
 all_turn plan sound = record {
   differ =
       pairs_from_rising (λ (one other : Touch). one ≢ other) (all_keys plan)
-      (rising-flat_map (λ (k l : ℕ). k < l) (λ (one other : Touch). one ≢ other) (keys_in plan) (range_with_len 0 (length plan.classes)) (range_rises 0 (length plan.classes))
-      (λ k d within. class_keys_differ plan (get_or (range_with_len 0 (length plan.classes)) k d) sound) (classes_apart plan));
+      (keys_differ (ids_of plan) (length plan.classes) (λ class. ids_rise plan class sound));
   old = record { by_id = λ class i j d below within. absurd (omega (arith, within)); classed = λ class. All-nil (λ (rec : Rec). rec.class ≡ class) };
   new = plans_are_facts plan sound;
   same = λ class. sym (filters_none (is_key (all_keys plan) class) (records_of plan class) (λ k d within. keyed plan class k d sound within));
@@ -130,10 +140,16 @@ flat_more f a (suc n) =
     ∙ sym (append_assoc (f a) (flat_map f (range_with_len (a + 1) n)) (f (a + 1 + n)))
     ∙ ap (λ (k : ℕ). (f a ++ flat_map f (range_with_len (a + 1) n)) ++ f k) (let e : a + 1 + n ≡ a + suc n = omega arith in e)
 
--- the keys of one class more
-pub keys_more : (plan : PlanView) (class : ℕ) → flat_map (keys_in plan) (range_with_len 0 (class + 1)) ≡ flat_map (keys_in plan) (range_with_len 0 class) ++ keys_in plan class
-keys_more plan class = ap (λ (n : ℕ). flat_map (keys_in plan) (range_with_len 0 n)) (let e : class + 1 ≡ suc class = omega arith in e) ∙ flat_more (keys_in plan) 0 class
-    ∙ ap (λ (k : ℕ). flat_map (keys_in plan) (range_with_len 0 class) ++ keys_in plan k) (let e : 0 + class ≡ class = omega arith in e)
+-- what is made of one class more
+pub class_more : (f : ℕ → List Touch) (class : ℕ) → flat_map f (range_with_len 0 (class + 1)) ≡ flat_map f (range_with_len 0 class) ++ f class
+class_more f class = ap (λ (n : ℕ). flat_map f (range_with_len 0 n)) (let e : class + 1 ≡ suc class = omega arith in e) ∙ flat_more f 0 class
+    ∙ ap (λ (k : ℕ). flat_map f (range_with_len 0 class) ++ f k) (let e : 0 + class ≡ class = omega arith in e)
+
+-- a member of a range is below its end
+pub range_to : (a n k d : ℕ) → k < length (range_with_len a n) → get_or (range_with_len a n) k d < a + n
+range_to a zero k d within = absurd (omega (arith, within))
+range_to a (suc n) zero d within = omega arith
+range_to a (suc n) (suc k) d within = (let rest = range_to (a + 1) n k d (omega (arith, within)) in omega (arith, rest))
 
 -- each key is of a class that the plan has
 pub keys_known : (plan : PlanView) (count : ℕ) → length plan.classes ≤ count → All (λ (key : Touch). key.class < count) (all_keys plan)
@@ -141,8 +157,3 @@ keys_known plan count le =
     All-flat_map (λ (key : Touch). key.class < count) (keys_in plan) (range_with_len 0 (length plan.classes))
     (λ k d within. All-map (λ (key : Touch). key.class < count) (λ id. record { class = get_or (range_with_len 0 (length plan.classes)) k d; id = id }) (ids_of plan (get_or (range_with_len 0 (length plan.classes)) k d))
     (λ j e there. (let below = range_to 0 (length plan.classes) k d within in omega (arith, below, le))))
-  where
-    range_to : (a n k d : ℕ) → k < length (range_with_len a n) → get_or (range_with_len a n) k d < a + n
-    range_to a zero k d within = absurd (omega (arith, within))
-    range_to a (suc n) zero d within = omega arith
-    range_to a (suc n) (suc k) d within = (let rest = range_to (a + 1) n k d (omega (arith, within)) in omega (arith, rest))

@@ -31,10 +31,11 @@ use Rattle.score_director.specs.Rule.{IsNetOf}
 use Rattle.score_director.specs.Standing.{AreRowsKept, HasRoomBeside, NetStands, StoodBefore, rows_kept, totals_of}
 use Rattle.score_director.proofs.FreshLaws.{fresh_nets_stand}
 use Rattle.score_director.proofs.Standing.{back_own, back_stands, begun_own, begun_stands, kept_own, kept_stands, stands_keep, stands_weigh}
-use Rattle.score_director.specs.Keys.{all_keys}
+use Rattle.score_director.specs.Keys.{all_keys, both_keys}
 use Rattle.score_director.specs.Ordered.{BecomeRuleRows}
 use Rattle.score_director.specs.Worth.{HasTurned, IsNetFor}
 use Rattle.score_director.proofs.AllKeys.{all_turn, keys_known, plan_within}
+use Rattle.score_director.proofs.BothKeys.{both_known, both_turn}
 use Rattle.score_director.proofs.Turned.{applied_sound}
 use Rattle.score_director.proofs.Turning.{edit_turns_facts, plans_are_facts}
 use Rattle.score_director.proofs.Worth.{sizes_of-applied}
@@ -141,6 +142,20 @@ module _ (m : Meaning) (rules : List RuleDef) where
         stands = is.stands;
         turn = edit_turns_facts plan sets is.sound legal (subst AreTouchesInOrder touched order);
       }))
+
+  -- another plan of as many classes turns what the network stands for at the keys of both
+  pub plan_turns : (old plan : PlanView) (net : NetView) (keys : List Touch) → IsNetFor m rules old net → IsPlan plan → length plan.classes ≡ length old.classes → keys ≡ both_keys old plan → HasTurned m rules net keys plan
+  plan_turns old plan net keys is sound many are =
+      let le : length plan.classes ≤ net.classes = (let e = is.classes in omega (arith, e, many)) in
+      subst (λ (ks : List Touch). HasTurned m rules net ks plan) (sym are) (record {
+        sound = sound;
+        own = is.own;
+        classes = le;
+        known = both_known old plan net.classes is.classes le;
+        facts = records_of old;
+        stands = is.stands;
+        turn = both_turn old plan is.sound sound;
+      })
 
   -- where a network stood for facts that turned, and turned with them, it is the network for the plan
   pub turned_for : (plan : PlanView) (keys : List Touch) (old new : NetView) → HasTurned m rules old keys plan → IsPlanInRange (sizes_of plan) rules plan → All HasRoomBeside rules

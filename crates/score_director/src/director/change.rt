@@ -10,7 +10,7 @@ ghost use Rattle.score_director.specs.Changed.{changed};
 ghost use Rattle.score_director.specs.View.{at_rest};
 
 use super::Director;
-use crate::network::{Worth, score_known, worth_of};
+use crate::network::{led_over, score_known};
 use plan_changes::Ready;
 use plan_facts::{List, Memory, Names, Plan};
 use plan_rules::{Book, Judges, Rules, Steps};
@@ -50,7 +50,8 @@ impl<B: Book> Director<B> {
         Ok(())
     }
 
-    /// Goes over to another plan. At want of memory all is as before.
+    /// Goes over to another plan of as many classes. Nothing is asked of records that both plans have alike. At want of
+    /// memory all is as before.
     fn replan<L: Ledger>(
         &mut self,
         rules: &Rules<B>,
@@ -60,14 +61,20 @@ impl<B: Book> Director<B> {
         requires judges { ⟦<Rules<B> as Judges>⟧.judges rules.now self.old.weights (sizes_of plan) }
         requires own { rules.now.defs ≡ self.old.rules }
         requires rest { self.old.base ≡ None }
+        requires classes { length plan.classes ≡ length self.old.plan.classes }
         ensures ok { OnOk result (self.new ≡ at_rest self.old.rules self.old.weights plan) }
         ensures err { OnErr result (self.new ≡ self.old) }
     {
-        let Worth { net, score } =
-            worth_of(self.alloc, rules, &plan, self.weights.as_slice(), steps)?;
+        self.score = led_over(
+            self.alloc,
+            &mut self.net,
+            rules,
+            &self.plan,
+            &plan,
+            self.weights.as_slice(),
+            steps,
+        )?;
         self.plan = plan;
-        self.net = net;
-        self.score = score;
         Ok(())
     }
 
@@ -85,6 +92,7 @@ impl<B: Book> Director<B> {
         requires rest { self.old.base ≡ None }
         requires plan { is_weight ready.now.deed ≡ true → plan ≡ self.old.plan }
         requires weights { is_weight ready.now.deed ≡ false → weights ≡ self.old.weights }
+        requires classes { length plan.classes ≡ length self.old.plan.classes }
         ensures ok { OnOk result (self.new ≡ at_rest self.old.rules weights plan) }
         ensures err { OnErr result (self.new ≡ self.old) }
         ensures unasked { is_weight ready.now.deed ≡ true → steps.new ≡ steps.old }

@@ -1,6 +1,7 @@
 -- The lines that explain a plan, fact by fact and class by class.
 use Rattle.std.proofs.Common.{◌≡◌, ◌∙◌, ◌+◌, ◌<◌, ◌==◌, ◌||◌, not, ℕ, suc, Bool, true, false, cond, List, [], ◌∷◌, ◌++◌, filter, length, map, get_or, take, refl, sym, ap, subst, arith}
 use Rattle.std.specs.List.{flat_map, list_any, range_with_len}
+use Rattle.std.proofs.lemmas.Bool.Decides.{nat_tests}
 use Rattle.std.proofs.lemmas.List.{append-nil, map-append, map-id, map_more}
 use Rattle.std.proofs.lemmas.List.Elements.{filter-append}
 use Rattle.std.proofs.lemmas.List.FromFn.{map-range_with_len_more}
@@ -23,14 +24,18 @@ use Rattle.indictments.specs.Tallies.{AreTallies, Entries, tally_in, tally_of}
 use Rattle.plan_session.specs.Explained.{explain_lines, explain_text, indict_line, indict_lines, tally_lines}
 use Rattle.plan_session.proofs.Grown.{written_more}
 
+-- a number after another one isn't 0
+is_some_count : (n : ℕ) → not (suc n == 0) ≡ true
+is_some_count n = grind (arith, nat_tests)
+
 -- some member passes a test where those that pass are not none
 any_is : {X : Type 0} (p : X → Bool) (xs : List X) → list_any p xs ≡ not (length (filter p xs) == 0)
 any_is p [] = refl
-any_is {X} p (x ∷ xs) = here (p x)
+any_is p (x ∷ xs) = here (p x) (any_is p xs)
   where
-    here : (b : Bool) → (b || list_any p xs) ≡ not (length (cond b (x ∷ filter p xs) (filter p xs)) == 0)
-    here true = refl
-    here false = any_is p xs
+    here : (b : Bool) → list_any p xs ≡ not (length (filter p xs) == 0) → (b || list_any p xs) ≡ not (length (cond b (x ∷ filter p xs) (filter p xs)) == 0)
+    here true rest = sym (is_some_count (length (filter p xs)))
+    here false rest = rest
 
 -- the lines of those of some facts that are parts of matches
 abbrev pub lines_among : List Match → List Named → List Line

@@ -8,6 +8,7 @@ mod events;
 mod explaining;
 mod fault;
 mod generate;
+mod nowhere;
 mod outside;
 mod printing;
 mod report;
@@ -19,6 +20,7 @@ mod task;
 mod tests;
 mod text;
 mod top;
+mod touring;
 
 pub use status::Status;
 pub use top::run;

@@ -1,7 +1,3 @@
-mod changes;
-mod made;
-mod ranges;
-
 use crate::{put_in_order, score_of_totals};
 use plan_facts::{List, Memory, Rec, Text};
 use plan_rules::{Head, Part, Row, RuleDef};

@@ -120,6 +120,17 @@ due_toured run number size is status.Ok text due = inr (inr (record { number = n
 due_toured run number size is status.Problem text due = inr (record { number = number; size = size; tours = is; due = due })
 due_toured run number size is _ text due = absurd due
 
+-- for a command that neither generates a problem nor tours one, usage is due
+pub due_usage : (domains : List DomainView) (makers : List (List Made)) (meaning : Meaning) (c : Command)
+    → ((number size : ℕ) → c ≡ Gen number size → ⊥) → ((number size workers buffer : ℕ) → c ≡ Tour number size workers buffer → ⊥)
+    → (s : Status) (text : List ℕ) → Says status.Usage usage_line s text → DueUnread domains makers meaning c s text
+due_usage domains makers meaning (Gen number size) ungenerated untoured s text said = absurd (ungenerated number size refl)
+due_usage domains makers meaning (Tour number size workers buffer) ungenerated untoured s text said = absurd (untoured number size workers buffer refl)
+due_usage domains makers meaning (Solve name feed workers buffer) ungenerated untoured s text said = said
+due_usage domains makers meaning (Replay name feed journal) ungenerated untoured s text said = said
+due_usage domains makers meaning (Score name) ungenerated untoured s text said = said
+due_usage domains makers meaning (Explain name) ungenerated untoured s text said = said
+
 -- what is due for a command that reads no problem is due in the run
 pub due_unread : (run : Run) (c : Command) → run.asked ≡ None → run.generates ≡ generated_by c → run.tours ≡ toured_by c
     → (s : Status) (text : List ℕ) → DueUnread run.domains run.makers run.meaning c s text → IsDue run s text

@@ -162,10 +162,10 @@ module _ (m : Meaning) (makers : List Made) (domain : DomainView) (settings : Se
   -- a worker on the director, and the way back that begins, are where the search begins
   pub starts_at : (director : DirectorView) (core : Core) (worker : WorkerView) (best : BestSoFar) (score : PlanScore)
       → IsBegun posed director core → worker ≡ record { director = director; seed = settings.seed }
-      → score ≡ score_seen m director → best.score ≡ score → best.back.items ≡ [] → best.wins ≡ 0
+      → score ≡ score_seen m director → best.score ≡ score → best.back.items ≡ []
       → IsInCourse core worker best posed 0
   unfolding plan_score
-  starts_at director core worker best score begun worker_is scored best_is none unwon =
+  starts_at director core worker best score begun worker_is scored best_is none =
       let scored_at : best.score ≡ state_score posed (state_after posed 0) =
       best_is ∙ scored ∙ (λ i. score_seen (by.means i) (begun.stands i)) in
       record {
@@ -176,7 +176,6 @@ module _ (m : Meaning) (makers : List Made) (domain : DomainView) (settings : Se
           greatest = ap (is_better_plan (state_score posed (state_after posed 0))) scored_at
               ∙ not_better_than_itself (state_score posed (state_after posed 0));
           back = subst (λ items. IsWayBack (best_after posed 0).plan items (state_after posed 0).plan) (sym none) refl;
-          wins = unwon;
         };
       }
 

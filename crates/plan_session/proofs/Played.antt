@@ -1,5 +1,5 @@
 -- A step's winner is played: where the search stands then.
-use Rattle.std.proofs.Common.{◌≡◌, ◌∙◌, ◌<◌, ◌^◌, ℕ, suc, Bool, true, false, cond, IfOk, OnOk, Result, Ok, Err, Option, Some, None, List, [], ◌∷◌, ◌++◌, refl, sym, ap, subst}
+use Rattle.std.proofs.Common.{◌≡◌, ◌∙◌, ℕ, suc, Bool, true, false, cond, IfOk, Result, Ok, Err, Option, Some, None, List, [], ◌∷◌, ◌++◌, refl, sym, ap, subst}
 use Rattle.std.specs.Option.{option_map}
 use Rattle.std.specs.Ordering.{is_gt, ordering_reverse}
 use Rattle.std.specs.declared.cmp.Ordering.{Ordering}
@@ -27,10 +27,8 @@ use Rattle.move_workers.specs.Judging.{LeadsTo, WorkerView, candidate_in, played
 use Rattle.move_workers.specs.Laws.{worker_on}
 use Rattle.plan_session.specs.declared.best.BestSoFar.{BestSoFar}
 use Rattle.plan_session.specs.Course.{IsAt, Plays, WentOn, best_after, state_after, winner_after}
-use Rattle.plan_session.specs.Toured.{one_more, wins_after}
 use Rattle.plan_session.specs.WayBack.{IsWayBack}
 use Rattle.plan_session.proofs.WayBack.{longer_way}
-use Rattle.plan_session.proofs.Won.{wins_idle, wins_won}
 
 -- what is made of nothing is nothing
 none_of : {A B : Type 0} (f : A → B) (o : Option A) → option_map f o ≡ None → o ≡ None
@@ -80,7 +78,6 @@ idle_went posed n worker best at none =
         greatest = ap (λ here. is_better_plan (state_score posed here) best.score) state ∙ at.greatest;
         back = subst (λ here. IsWayBack (best_after posed (suc n)).plan best.back.items here.plan) (sym state)
             (subst (λ there. IsWayBack there.plan best.back.items s.plan) (sym stays) at.back);
-        wins = at.wins ∙ sym (wins_idle posed n (ap (λ step. step.winner) next));
       };
       tells = ap (λ step. step.is_best) (sym next);
     }
@@ -151,18 +148,17 @@ keeps_best : (posed : Posed) (n : ℕ) (before after : State) (worker : WorkerVi
     → is_best ≡ is_better_plan (state_score posed after) (state_score posed (best_after posed n))
     → old.score ≡ state_score posed (best_after posed n)
     → IsWayBack (best_after posed n).plan old.back.items before.plan → LeadsTo before.plan after.plan back
-    → Knows posed after old new back is_best → new.wins ≡ wins_after posed (suc n)
+    → Knows posed after old new back is_best
     → IsAt posed (suc n) worker new
-keeps_best posed n before after worker old new back true state best is better score way leads knows wins = record {
+keeps_best posed n before after worker old new back true state best is better score way leads knows = record {
   stands = is ∙ ap (worker_on posed) (sym state);
   score = knows.0 ∙ ap (state_score posed) (sym best);
   greatest =
       (λ i. is_better_plan (state_score posed (state i)) (knows.0 i)) ∙ not_better_than_itself (state_score posed after);
   back = subst (λ items. IsWayBack (best_after posed (suc n)).plan items (state_after posed (suc n)).plan) (sym knows.1)
       (ap (λ s. s.plan) (state ∙ sym best));
-  wins = wins;
 }
-keeps_best posed n before after worker old new back false state best is better score way leads knows wins = record {
+keeps_best posed n before after worker old new back false state best is better score way leads knows = record {
   stands = is ∙ ap (worker_on posed) (sym state);
   score = knows.0 ∙ score ∙ ap (state_score posed) (sym best);
   greatest =
@@ -171,7 +167,6 @@ keeps_best posed n before after worker old new back false state best is better s
       (subst (λ b. IsWayBack b.plan (old.back.items ++ back ∷ []) (state_after posed (suc n)).plan) (sym best)
       (subst (λ s. IsWayBack (best_after posed n).plan (old.back.items ++ back ∷ []) s.plan) (sym state)
       (longer_way (best_after posed n).plan before.plan after.plan old.back.items back way leads)));
-  wins = wins;
 }
 
 -- a step that was won goes on to the state after the winner's move
@@ -185,10 +180,9 @@ pub won_went : (m : Meaning) (posed : Posed) (n number : ℕ) (worker0 worker1 :
     → is_best ≡ is_better_plan score best0.score
     → best1.score ≡ cond is_best score best0.score
     → best1.back.items ≡ cond is_best [] (best0.back.items ++ back ∷ [])
-    → best1.wins ≡ one_more best0.wins → suc n < 2 ^ 32
     → WentOn posed n worker1 best1 is_best
 unfolding plan_score
-won_went m posed n number worker0 worker1 best0 best1 back candidate score is_best means is at wins went leads scored better score_is back_is wins_are fits =
+won_went m posed n number worker0 worker1 best0 best1 back candidate score is_best means is at wins went leads scored better score_is back_is =
     let w = winner_plays posed n number worker0 best0 candidate is at wins in
     let s = state_after posed n in
     let after : State = with_plan s (applied s.plan w.sets) in
@@ -208,15 +202,14 @@ won_went m posed n number worker0 worker1 best0 best1 back candidate score is_be
     (subst (λ (w : WorkerView). LeadsTo worker0.director.plan w.director.plan back) worker leads) in
     record {
       at = keeps_best posed n s after worker1 best0 best1 back is_best state best worker better_is at.score at.back back_to
-          (score_at, back_is)
-          (wins_won posed n number best0.wins best1.wins (ap (λ step. step.winner) w.next) fits at.wins wins_are);
+          (score_at, back_is);
       tells = better_is
           ∙ ap (is_better_plan (state_score posed after)) (sym (best_score-is (game posed) (leg_after posed n)))
           ∙ ap (λ step. step.is_best) (sym w.next);
     }
 
--- what follows from what holds where a call succeeds, and from three facts of its value, follows where it does
-pub if_ok_four : {A E : Type 0} (P Q R S : A → Type 0) (W : Type 0) (result : Result A E) → IfOk result P → IfOk result Q → IfOk result R → OnOk result W
-    → ((value : A) → P value → Q value → R value → W → S value) → IfOk result S
-if_ok_four P Q R S W (Ok value) p q r w all = all value p q r w
-if_ok_four P Q R S W (Err fault) p q r w all = p
+-- what follows from three facts of a value follows where there is one
+pub if_ok_three : {A E : Type 0} (P Q R S : A → Type 0) (result : Result A E) → IfOk result P → IfOk result Q → IfOk result R
+    → ((value : A) → P value → Q value → R value → S value) → IfOk result S
+if_ok_three P Q R S (Ok value) p q r all = all value p q r
+if_ok_three P Q R S (Err fault) p q r all = p

@@ -25,7 +25,6 @@ use Rattle.search_core.specs.Truth.{IsTaken}
 use Rattle.plan_ports.specs.Outside.{LaterSink, SinkState, Wrote}
 use Rattle.plan_session.specs.declared.best.BestSoFar.{BestSoFar}
 use Rattle.plan_session.specs.declared.events.TheConstants.{BUFFER}
-use Rattle.plan_session.specs.Toured.{wins_after}
 use Rattle.plan_session.specs.WayBack.{IsWayBack}
 
 -- the state, and the best one, of a search after so many steps
@@ -63,14 +62,12 @@ pub record SameTerms (old new : WorkerView) : Type 0 where
   pub seed : new.seed ≡ old.seed
   pub sizes : sizes_of new.director.plan ≡ sizes_of old.director.plan
 
--- the worker is at the state after so many steps, and knows the best one, than which the state isn't better, the way back, and how
--- many steps had a winner
+-- the worker is at the state after so many steps, and knows the best one, than which the state isn't better, and the way back
 pub record IsAt (posed : Posed) (n : ℕ) (worker : WorkerView) (best : BestSoFar) : Type 0 where
   pub stands : worker ≡ worker_on posed (state_after posed n)
   pub score : best.score ≡ state_score posed (best_after posed n)
   pub greatest : is_better_plan (state_score posed (state_after posed n)) best.score ≡ false
   pub back : IsWayBack (best_after posed n).plan best.back.items (state_after posed n).plan
-  pub wins : best.wins ≡ wins_after posed n
 
 -- the step after so many was played, and is the best or not
 pub record WentOn (posed : Posed) (n : ℕ) (worker : WorkerView) (best : BestSoFar) (is_best : Bool) : Type 0 where

@@ -6,7 +6,6 @@ use Rattle.plan_words.specs.declared.command.Command.TheVariants.{Solve, Replay,
 use Rattle.plan_search.specs.Posed.{Posed}
 use Rattle.plan_search.specs.RunLines.{score_text, solve_text}
 use Rattle.plan_session.specs.Explained.{explain_text}
-use Rattle.plan_session.specs.Toured.{tour_text}
 use Rattle.plan_session.specs.declared.task.Wanted.{Wanted}
 use Rattle.plan_session.specs.declared.task.Wanted.TheVariants as want
 
@@ -46,22 +45,8 @@ generated_by (Tour number size workers buffer) = None
 unfoldable pub generation_asked : List (List ℕ) → Option (ℕ × ℕ)
 generation_asked words = option_and_then generated_by (command words)
 
--- the number and the size of the problem that a command generates to sum up a run of it
-abbrev pub toured_by : Command → Option (ℕ × ℕ)
-toured_by (Solve name feed workers buffer) = None
-toured_by (Replay name feed journal) = None
-toured_by (Score name) = None
-toured_by (Explain name) = None
-toured_by (Gen number size) = None
-toured_by (Tour number size workers buffer) = Some (number, size)
-
--- the number and the size of the problem of whose run the words ask for the sum; none where they ask for something else
-unfoldable pub tour_asked : List (List ℕ) → Option (ℕ × ℕ)
-tour_asked words = option_and_then toured_by (command words)
-
 -- the text that is wanted of a posed problem
 abbrev pub text_wanted : Wanted → Posed → List ℕ
 text_wanted want.Solution = solve_text
 text_wanted want.Score = score_text
 text_wanted want.Explanation = explain_text
-text_wanted (want.Tour number size) = tour_text number size

@@ -8,7 +8,6 @@ ghost use Rattle.plan_settings.specs.Settings.{IsInRange};
 ghost use Rattle.plan_session.specs.Explained.{explain_text};
 ghost use Rattle.plan_session.specs.Posed.{posed_in};
 ghost use Rattle.plan_session.specs.Printing.{Prints};
-ghost use Rattle.plan_session.specs.Toured.{tour_text};
 ghost use Rattle.problem_faults.specs.Words.{refusal_line};
 ghost use Rattle.plan_session.specs.Due.{DueForBytes, DueForProblem};
 ghost use Rattle.plan_session.specs.Ending.{Ended, Says};
@@ -20,7 +19,6 @@ use crate::searching::solve;
 use crate::status::Status;
 use crate::task::Wanted;
 use crate::text::score_text;
-use crate::touring::tour_text;
 use plan_json::{Domain, Problem, read_problem};
 use plan_moves::MoveMaker as Maker;
 use plan_ports::Sink;
@@ -92,28 +90,6 @@ fn respond_explanation<B: Book, K: Sink>(
     }
 }
 
-/// Searches a generated problem, and writes the sum of the run.
-fn respond_tour<B: Book, K: Sink>(
-    alloc: Global,
-    number: u32,
-    size: u32,
-    domain: &Domain<B>,
-    problem: Problem,
-    out: &mut K,
-) -> Status
-    requires judges { ⟦<Rules<B> as Judges>⟧.judges domain.now.rules problem.weights (sizes_of problem.plan) }
-    requires in_range { IsInRange problem.settings }
-    ensures ended { let makes = map (λ m. (⟦<dyn Maker as Maker>⟧ m.vtable).made m.value) domain.now.makers.items in
-        let posed = posed_in B.meaning makes (domain_view domain.now) (problem_view problem) in
-        Ended (Says Status.Ok (tour_text number size posed)) (K.state out.old) (K.state out.new) result }
-    ensures later { LaterSink (K.state out.old) (K.state out.new) }
-{
-    match tour_text(alloc, number, size, domain, problem) {
-        Ok(text) => say(out, Status::Ok, &text),
-        Err(_) => Status::Memory,
-    }
-}
-
 /// Writes what is wanted of a problem of this domain that was accepted.
 fn respond<B: Book, K: Sink>(
     alloc: Global,
@@ -133,7 +109,6 @@ fn respond<B: Book, K: Sink>(
         Wanted::Solution => status_of(solve(alloc, domain, problem, out)),
         Wanted::Score => respond_score(alloc, domain, problem, out),
         Wanted::Explanation => respond_explanation(alloc, domain, problem, out),
-        Wanted::Tour { number, size } => respond_tour(alloc, number, size, domain, problem, out),
     }
 }
 

@@ -8,7 +8,6 @@ mod events;
 mod explaining;
 mod fault;
 mod generate;
-mod nowhere;
 mod outside;
 mod printing;
 mod report;
@@ -20,7 +19,6 @@ mod task;
 mod tests;
 mod text;
 mod top;
-mod touring;
 
 pub use status::Status;
 pub use top::run;

@@ -15,10 +15,9 @@ ghost use Rattle.score_director.specs.View.{at_rest, score_seen};
 ghost use Rattle.move_selectors.specs.Candidates.{Made};
 ghost use Rattle.plan_session.specs.Begun.{BeginsLeg, IsBegun, IsOrigin, IsPosedBy, best_text, opening_of, run_line_of};
 ghost use Rattle.plan_ports.specs.Outside.{SinkState};
-ghost use Rattle.plan_session.specs.Course.{HasPrinted};
+ghost use Rattle.plan_session.specs.Course.{HasPrinted, best_after};
 ghost use Rattle.plan_session.specs.Posed.{posed_in};
 ghost use Rattle.plan_session.specs.Printing.{Prints};
-ghost use Rattle.plan_session.specs.Searched.{HasSearched};
 ghost use Rattle.plan_session.specs.Writes.{Writes};
 
 use crate::best::{BestSoFar, lead_back};
@@ -41,14 +40,6 @@ use plan_settings::{Construction, Settings};
 use score_director::Director;
 use search_core::Core;
 use std::alloc::Global;
-
-/// What a search came to: its best plan and the score of that, and how many steps had a winner.
-#[derive(Drop)]
-pub struct Searched {
-    pub best: Plan,
-    pub score: PlanScore,
-    pub wins: u32,
-}
 
 /// Whether harder entities are placed first.
 fn is_decreasing(construction: Construction) -> bool
@@ -166,7 +157,7 @@ fn place_and_start<B: Book>(
 
 /// Places the plan and prints the lines of the run up to its start score. Gives the director of the placed plan, and the core
 /// before its first step.
-pub fn begin<B: Book, K: Sink>(
+fn begin<B: Book, K: Sink>(
     alloc: Global,
     domain: &Domain<B>,
     settings: &Settings,
@@ -234,8 +225,8 @@ fn print_best<B: Book, K: Sink>(
     print(buffer, out)
 }
 
-/// Does all steps from a placed plan, and prints their lines.
-pub fn search<B: Book, K: Sink>(
+/// Does all steps from a placed plan, and prints their lines. Gives the best plan.
+fn search<B: Book, K: Sink>(
     alloc: Global,
     domain: &Domain<B>,
     settings: &Settings,
@@ -243,7 +234,7 @@ pub fn search<B: Book, K: Sink>(
     core: Core,
     buffer: &mut Vec<u8>,
     out: &mut K,
-) -> Result<Searched, PrintFault>
+) -> Result<Plan, PrintFault>
     requires judges { ⟦<Rules<B> as Judges>⟧.judges domain.now.rules director.weights (sizes_of director.plan) }
     requires in_range { IsInRange settings.now }
     requires begun { let makes = map (λ m. (⟦<dyn Maker as Maker>⟧ m.vtable).made m.value) domain.now.makers.items in
@@ -256,11 +247,11 @@ pub fn search<B: Book, K: Sink>(
         → IsPosedBy B.meaning makes (domain_view domain.now) settings.now posed
         → IsBegun posed director core → HasPrinted posed 0 start (K.state out.old)
         → Prints result (text_of posed (lines_after posed settings.now.steps)) start (K.state out.new) }
-    ensures searched { let makes = map (λ m. (⟦<dyn Maker as Maker>⟧ m.vtable).made m.value) domain.now.makers.items in
-        IfOk result (λ searched. (posed : Posed)
+    ensures best { let makes = map (λ m. (⟦<dyn Maker as Maker>⟧ m.vtable).made m.value) domain.now.makers.items in
+        IfOk result (λ plan. (posed : Posed)
         → IsPosedBy B.meaning makes (domain_view domain.now) settings.now posed
-        → IsBegun posed director core → HasSearched posed settings.now.steps searched) }
-    ensures sizes { IfOk result (λ searched. sizes_of searched.best ≡ sizes_of director.plan) }
+        → IsBegun posed director core → plan ≡ (best_after posed settings.now.steps).plan) }
+    ensures sizes { IfOk result (λ plan. sizes_of plan ≡ sizes_of director.plan) }
 {
     let report = Report {
         schema: &domain.schema,
@@ -287,14 +278,9 @@ pub fn search<B: Book, K: Sink>(
         buffer,
         out,
     )?;
-    let BestSoFar { score, back, wins } = best;
     let mut plan = worker.into_plan();
-    lead_back(back, &mut plan);
-    Ok(Searched {
-        best: plan,
-        score,
-        wins,
-    })
+    lead_back(best.back, &mut plan);
+    Ok(plan)
 }
 
 /// Prints what `solve` prints of a problem, line by line: the placing of its plan, each step of the search, and the best
@@ -320,13 +306,6 @@ pub fn solve<B: Book, K: Sink>(
     let under = weights.copy(alloc)?;
     let mut buffer = Vec::new(alloc);
     let (director, core) = begin(alloc, domain, &settings, plan, weights, &mut buffer, out)?;
-    let searched = search(alloc, domain, &settings, director, core, &mut buffer, out)?;
-    print_best(
-        alloc,
-        domain,
-        &searched.best,
-        under.as_slice(),
-        &mut buffer,
-        out,
-    )
+    let best = search(alloc, domain, &settings, director, core, &mut buffer, out)?;
+    print_best(alloc, domain, &best, under.as_slice(), &mut buffer, out)
 }

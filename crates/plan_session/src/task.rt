@@ -1,5 +1,5 @@
 ghost use Rattle.std.specs.Prelude.{◌≡◌, option_map};
-ghost use Rattle.plan_session.specs.Task.{task, task_of};
+ghost use Rattle.plan_session.specs.Task.{generated_by, task, task_of};
 
 use plan_words::Command;
 
@@ -12,8 +12,6 @@ pub enum Wanted {
     Score,
     /// The score of its plan as read, each match, and the facts that are parts of matches.
     Explanation,
-    /// The sum of a run, where it is the generated problem of this number and size.
-    Tour { number: u32, size: u32 },
 }
 
 /// The name of the problem that a command reads, and what it wants of it; none for a command that reads none, or that isn't
@@ -29,6 +27,16 @@ pub fn task_of(command: &Command) -> Option<(&[u8], Wanted)>
         } => Some((name.as_slice(), Wanted::Solution)),
         Command::Score { name } => Some((name.as_slice(), Wanted::Score)),
         Command::Explain { name } => Some((name.as_slice(), Wanted::Explanation)),
+        _ => None,
+    }
+}
+
+/// The number and the size of the problem that a command generates; none for another command.
+pub fn generated_by(command: &Command) -> Option<(u32, u32)>
+    ensures { result ≡ generated_by command.now }
+{
+    match command {
+        Command::Gen { number, size } => Some((*number, *size)),
         _ => None,
     }
 }

@@ -173,7 +173,7 @@ const GENERATED: &str =
     r#"{"domain":"timetable","facts":{"lesson":[{"group":"G0","id":1,"size":20,"subject":"S0","teacher":"T0"}],"room":[{"capacity":30,"id":1}],"timeslot":[{"day":1,"end":540,"id":1,"start":480}]},"format":1,"settings":{"seed":0,"steps":5}}
 "#;
 
-const CASES: [Case; 11] = [
+const CASES: [Case; 10] = [
     Case {
         words: "gen 0 1",
         problem: LESSONS,
@@ -245,14 +245,6 @@ const CASES: [Case; 11] = [
         puts: &[],
         text: EXPLAINED,
         status: Status::Ok,
-    },
-    Case {
-        words: "tour 0 1",
-        problem: LESSONS,
-        opens: &[0],
-        puts: &[],
-        text: "refused problem domain\n",
-        status: Status::Problem,
     },
     Case {
         words: "",

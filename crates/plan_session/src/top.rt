@@ -3,7 +3,7 @@ ghost use Rattle.plan_ports.specs.Outside.{LaterShelf, LaterSink};
 ghost use Rattle.plan_json.specs.Seen.{domain_views};
 ghost use Rattle.plan_session.specs.Due.{IsDue, Run};
 ghost use Rattle.plan_session.specs.Ending.{Ended};
-ghost use Rattle.plan_session.specs.Task.{generation_asked, task, task_asked, tour_asked};
+ghost use Rattle.plan_session.specs.Task.{generation_asked, task, task_asked};
 
 use crate::answer::answer;
 use crate::generate::answer_unread;
@@ -33,7 +33,6 @@ fn perform<B: Book, S: Shelf, K: Sink>(
     ensures ended { let run : Run = record {
       asked = Some (task name.now wanted);
       generates = None;
-      tours = None;
       domains = domain_views domains.now;
       makers = map (λ d. map (λ m. (⟦<dyn Maker as Maker>⟧ m.vtable).made m.value) d.makers.items) domains.now;
       meaning = B.meaning;
@@ -56,8 +55,7 @@ fn perform<B: Book, S: Shelf, K: Sink>(
 /// Carries out what the words ask for: a problem is read from the shelf, and what is due for it is written to the
 /// sink. `solve NAME` prints the search of its plan, step by step, with the best plan and its score; `score NAME` the
 /// score of its plan as read; `explain NAME` that with each match, and what each fact adds. `gen NUMBER SIZE` prints a
-/// generated problem, and `tour NUMBER SIZE` the sum of the run that `solve` prints of it; they read nothing. Other commands
-/// aren't built yet.
+/// generated problem, and reads nothing. Other commands aren't built yet.
 pub fn run<T: Threads + Wait + Sync, B: Book, S: Shelf, K: Sink + Send, G: Gate + Sync>(
     _rt: &T,
     alloc: Global,
@@ -75,7 +73,6 @@ where
     ensures ended { let run : Run = record {
       asked = task_asked words.now;
       generates = generation_asked words.now;
-      tours = tour_asked words.now;
       domains = domain_views domains.now;
       makers = map (λ d. map (λ m. (⟦<dyn Maker as Maker>⟧ m.vtable).made m.value) d.makers.items) domains.now;
       meaning = B.meaning;
@@ -95,7 +92,7 @@ where
     match read_words(alloc, words) {
         Ok(command) => match task_of(&command) {
             Some((name, wanted)) => perform(alloc, name, wanted, shelf, out, domains),
-            None => answer_unread(alloc, &command, domains, out),
+            None => answer_unread(alloc, &command, out),
         },
         Err(WordFault::Memory) => Status::Memory,
         Err(WordFault::Usage) => say(out, Status::Usage, b"refused usage\n"),

@@ -18,8 +18,3 @@ pub returns-in-Explanation-clause-ended : goal.returns-in-Explanation-clause-end
 returns-in-Explanation-clause-ended g c =
     ended_wanted g.B.Book.meaning _ want.Explanation c.args.wanted (domain_view c.args.domain.now) (problem_view c.args.problem) _ _ _ c.in-Explanation.is
     c.respond_explanation.ensures.ended
-
-pub returns-in-Tour-clause-ended : goal.returns-in-Tour-clause-ended
-returns-in-Tour-clause-ended g c =
-    ended_wanted g.B.Book.meaning _ (want.Tour c.in-Tour.number c.in-Tour.size) c.args.wanted (domain_view c.args.domain.now) (problem_view c.args.problem) _ _ _ c.in-Tour.is
-    c.respond_tour.ensures.ended

@@ -27,7 +27,7 @@ returns-in_err-do_steps-clause-prints g c = λ posed start by begun printed.
     (reports_by m _ domain settings posed by _ refl c.as_slice.ensures)
     (plays_by m _ domain settings posed by _ _ _ refl c.as_slice-2.ensures (ap (map _) c.deref.ensures.value))
     (starts_at m _ domain settings posed by c.args.director c.args.core c.in_ok-worker.worker c.begin-best.result c.score-score.result begun
-    c.in_ok-worker.ensures c.score-score.ensures c.begin-best.ensures.score c.begin-best.ensures.back c.begin-best.ensures.wins)
+    c.in_ok-worker.ensures c.score-score.ensures c.begin-best.ensures.score c.begin-best.ensures.back)
     printed)
 
 pub lead_back-requires : goal.lead_back-requires
@@ -40,7 +40,7 @@ lead_back-requires g c =
     let course = c.in_ok-do_steps.ensures.went_on posed (ap (λ (s : Settings). s.steps) by.settings_are)
     (plays_by m _ domain settings posed by _ _ _ refl c.as_slice-2.ensures (ap (map _) c.deref.ensures.value))
     (starts_at m _ domain settings posed by c.args.director c.args.core c.in_ok-worker.worker c.begin-best.result c.score-score.result c.requires.begun.2
-    c.in_ok-worker.ensures c.score-score.ensures c.begin-best.ensures.score c.begin-best.ensures.back c.begin-best.ensures.wins) in (
+    c.in_ok-worker.ensures c.score-score.ensures c.begin-best.ensures.score c.begin-best.ensures.back) in (
       (best_after posed settings.steps).plan,
       way_from posed settings.steps c.do_steps.new.worker c.do_steps.new.best c.into_plan-plan.result course.at c.into_plan-plan.ensures,
     )
@@ -55,21 +55,17 @@ returns-clause-prints g c = λ posed start by begun printed.
     (reports_by m _ domain settings posed by _ refl c.as_slice.ensures)
     (plays_by m _ domain settings posed by _ _ _ refl c.as_slice-2.ensures (ap (map _) c.deref.ensures.value))
     (starts_at m _ domain settings posed by c.args.director c.args.core c.in_ok-worker.worker c.begin-best.result c.score-score.result begun
-    c.in_ok-worker.ensures c.score-score.ensures c.begin-best.ensures.score c.begin-best.ensures.back c.begin-best.ensures.wins)
+    c.in_ok-worker.ensures c.score-score.ensures c.begin-best.ensures.score c.begin-best.ensures.back)
     printed)
 
-pub returns-clause-searched : goal.returns-clause-searched
-returns-clause-searched g c = λ posed by begun.
+pub returns-clause-best : goal.returns-clause-best
+returns-clause-best g c = λ posed by begun.
     let m = g.B.Book.meaning in
     let domain = domain_view c.args.domain.now in
     let settings = c.args.settings.now in
     let course = c.in_ok-do_steps.ensures.went_on posed (ap (λ (s : Settings). s.steps) by.settings_are)
     (plays_by m _ domain settings posed by _ _ _ refl c.as_slice-2.ensures (ap (map _) c.deref.ensures.value))
     (starts_at m _ domain settings posed by c.args.director c.args.core c.in_ok-worker.worker c.begin-best.result c.score-score.result begun
-    c.in_ok-worker.ensures c.score-score.ensures c.begin-best.ensures.score c.begin-best.ensures.back c.begin-best.ensures.wins) in
-    record {
-      best = c.lead_back.ensures.best _
-          (way_from posed settings.steps c.do_steps.new.worker c.do_steps.new.best c.into_plan-plan.result course.at c.into_plan-plan.ensures);
-      score = course.at.score;
-      wins = course.at.wins;
-    }
+    c.in_ok-worker.ensures c.score-score.ensures c.begin-best.ensures.score c.begin-best.ensures.back) in
+    c.lead_back.ensures.best _
+    (way_from posed settings.steps c.do_steps.new.worker c.do_steps.new.best c.into_plan-plan.result course.at c.into_plan-plan.ensures)

@@ -4,7 +4,7 @@ use Rattle.std.specs.Prelude.{option_map}
 use Rattle.std.specs.Option.{option_map_or}
 use Rattle.plan_moves.specs.declared.edit.Set.{Set}
 use Rattle.plan_search.specs.Game.{found_at, found_of}
-use Rattle.plan_search.specs.Posed.{Posed, State, candidate_at, game_of, move_of, plan_score, with_plan}
+use Rattle.plan_search.specs.Posed.{Posed, State, candidate_at, game_of, move_of, plan_score}
 use Rattle.move_workers.specs.Judging.{found_by, played}
 use Rattle.move_workers.specs.Laws.{worker_on}
 

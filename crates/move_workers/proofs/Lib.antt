@@ -1,2 +1,5 @@
+pub mod Alike
 pub mod Drawn
 pub mod InGame
+pub mod Shared
+pub mod Slots

@@ -1,12 +1,14 @@
 -- A worker as contracts see it, and what its calls find and leave.
-use Rattle.std.specs.Prelude.{◌≡◌, ℕ, IsTrue, List, Option, option_map}
+use Rattle.std.specs.Prelude.{◌≡◌, ℕ, IfSome, IsTrue, List, Option, option_map}
 use Rattle.std.specs.Option.{option_map_or}
 use Rattle.plan_facts.specs.Plan.{PlanView}
+use Rattle.plan_changes.specs.Ready.{ReadyView}
 use Rattle.plan_moves.specs.declared.edit.Set.{Set}
 use Rattle.plan_moves.specs.Edits.{applied, inverse_of, is_legal, touched_by}
 use Rattle.plan_rules.specs.Meaning.{Meaning}
 use Rattle.plan_settings.specs.declared.setting.Selector.{Selector}
 use Rattle.move_selectors.specs.Candidates.{Made}
+use Rattle.score_director.specs.Changed.{changed}
 use Rattle.score_director.specs.View.{DirectorView, attempted, kept, score_seen}
 use Rattle.plan_search.specs.declared.found.Found.{Found}
 use Rattle.plan_search.specs.Posed.{candidate_by}
@@ -45,3 +47,21 @@ pub record HasPlayed (before after : WorkerView) (candidate answer : Option (Lis
 pub record LeadsTo (wanted plan : PlanView) (sets : List Set) : Type 0 where
   pub legal : IsTrue (is_legal plan sets)
   pub leads : applied plan sets ≡ wanted
+
+-- what a worker finds of a step's candidate under a number
+abbrev pub found_in : Meaning → ℕ → List Selector → List Made → ℕ → WorkerView → ℕ → Option Found
+found_in m seed selectors makers step worker number =
+    found_by m worker.director (candidate_in seed selectors makers step number worker)
+
+-- a worker on a director's plan, whose draws have this seed
+abbrev pub worker_of : DirectorView → ℕ → WorkerView
+worker_of director seed = record { director = director; seed = seed }
+
+-- an answer is the edit that takes a played candidate back, where that may be made
+pub record TakesBack (before : WorkerView) (candidate answer : Option (List Set)) : Type 0 where
+  pub back : answer ≡ option_map (inverse_of before.director.plan) candidate
+  pub leads : IfSome answer (LeadsTo before.director.plan (played before candidate).director.plan)
+
+-- the worker once a change was made
+abbrev pub worker_after : WorkerView → ReadyView → List (List ℕ) → WorkerView
+worker_after worker ready names = record worker { director = changed worker.director ready names }

@@ -1,2 +1,4 @@
+pub mod Jobs
 pub mod Judging
 pub mod Laws
+pub mod Teams

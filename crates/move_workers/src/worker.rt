@@ -1,9 +1,10 @@
-use crate::alone::{judge_alone, keep_alone};
+use crate::alone::{change_alone, judge_alone, keep_alone};
 use crate::draw::{Hand, draw};
 use crate::kit::Kit;
 use move_selectors::Pool;
+use plan_changes::Ready;
 use plan_draws::Draws;
-use plan_facts::{Memory, Plan};
+use plan_facts::{Memory, Names, Plan};
 use plan_moves::{Edit, MoveMaker};
 use plan_rules::{Book, Judges, Rules};
 use plan_scores::PlanScore;
@@ -21,7 +22,7 @@ pub struct Worker<B: Book> {
 }
 
 impl<B: Book> Model for Worker<B> {
-    ghost use Rattle.std.specs.Prelude.{◌≡◌, None};
+    ghost use Rattle.std.specs.Prelude.{◌≡◌, None, false};
     ghost use Rattle.move_selectors.specs.Pool.{IsPoolOf};
     ghost use Rattle.move_workers.specs.Judging.{WorkerView};
 
@@ -29,14 +30,18 @@ impl<B: Book> Model for Worker<B> {
 
     ghost view = { λ w. record { director = w.director; seed = w.hand.draws } };
 
-    ghost invariant = { λ w. (w.director.base ≡ None) × IsPoolOf w.director.plan w.hand.pool };
+    ghost invariant = { λ w. let hand = w.hand in
+        (w.director.base ≡ None) × (hand.is_stale ≡ false → IsPoolOf w.director.plan hand.pool) };
 }
 
 impl<B: Book> Worker<B> {
-    ghost use Rattle.std.specs.Prelude.{◌≡◌, ◌≤◌, None, IfOk, IfSome, OnErr, map};
+    ghost use Rattle.std.specs.Prelude.{◌≡◌, ◌≤◌, List, None, IfOk, IfSome, OnErr, OnOk, length, map};
+    ghost use Rattle.plan_facts.specs.declared.record.ClassDef.{ClassDef};
+    ghost use Rattle.plan_changes.specs.Fits.{IsOfSchema};
+    ghost use Rattle.plan_changes.specs.Performed.{HasRoom, MayPerform, names_after, plan_after, weights_after};
     ghost use Rattle.plan_rules.specs.Range.{sizes_of};
     ghost use Rattle.score_director.specs.View.{score_seen};
-    ghost use Rattle.move_workers.specs.Judging.{HasPlayed, LeadsTo, candidate_in, found_by};
+    ghost use Rattle.move_workers.specs.Judging.{HasPlayed, LeadsTo, candidate_in, found_by, worker_after};
 
     /// A worker on a director's plan, whose draws have the kit's seed.
     pub fn new(alloc: Global, kit: &Kit<'_, B>, director: Director<B>) -> Result<Worker<B>, Memory>
@@ -48,7 +53,13 @@ impl<B: Book> Worker<B> {
         let edit = Edit::new(alloc);
         Ok(Worker {
             director,
-            hand: Hand { pool, draws, edit },
+            hand: Hand {
+                alloc,
+                pool,
+                is_stale: false,
+                draws,
+                edit,
+            },
         })
     }
 
@@ -128,6 +139,32 @@ impl<B: Book> Worker<B> {
         keep_alone(&mut self.director, kit.rules, &self.hand.edit)?;
         self.hand.pool.forget_pillars();
         Ok(Some(back))
+    }
+
+    /// Makes a change of the plan, the names or the weights, which may be made; rows and score must stay in range. At want
+    /// of memory all is as before.
+    pub fn change(
+        &mut self,
+        kit: &Kit<'_, B>,
+        names: &mut Names,
+        ready: &Ready,
+    ) -> Result<(), Memory>
+        requires judges { let weights = weights_after ready.now self.old.director.weights in
+            let plan = plan_after ready.now names.old self.old.director.plan in
+            ⟦<Rules<B> as Judges>⟧.judges kit.now.rules.now weights (sizes_of plan) }
+        requires own { kit.now.rules.now.defs ≡ self.old.director.rules }
+        requires may { MayPerform ready.now self.old.director.plan (length self.old.director.weights) }
+        requires room { HasRoom ready.now names.old }
+        ensures ok { OnOk result (self.new ≡ worker_after self.old ready.now names.old) }
+        ensures names { OnOk result (names.new ≡ names_after ready.now names.old) }
+        ensures err { OnErr result (self.new ≡ self.old) }
+        ensures names_stay { OnErr result (names.new ≡ names.old) }
+        ensures schema { (classes : List ClassDef) → IsOfSchema classes self.old.director.plan
+            → IsOfSchema classes self.new.director.plan }
+    {
+        change_alone(&mut self.director, kit.rules, names, ready)?;
+        self.hand.is_stale = true;
+        Ok(())
     }
 
     /// The worker's plan, in its place.

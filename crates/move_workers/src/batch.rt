@@ -1,0 +1,337 @@
+ghost use Rattle.std.specs.Prelude.{◌≡◌, ◌+◌, ◌^◌, ◌<◌, ◌≤◌, ◌∷◌, ◌++◌, ℕ, [], All, IfOk, None, Option, false, true, length, map, replicate, slice_index_or, vec_capacity, vec_len};
+ghost use Rattle.std.specs.List.{range_with_len};
+ghost use Rattle.claim_board.specs.Boards.{BoardView, fresh_pass};
+ghost use Rattle.plan_rules.specs.Meaning.{KeyAnswers, TestAnswers, WeighAnswers};
+ghost use Rattle.plan_rules.specs.Range.{sizes_of};
+ghost use Rattle.plan_search.specs.declared.found.Found.{Found};
+ghost use Rattle.move_workers.specs.declared.job.Job.{Job};
+ghost use Rattle.move_workers.specs.Jobs.{AreBelow, IsGathered, IsIdle, IsReady, IsWorked, found_from, placed};
+ghost use Rattle.move_workers.specs.Judging.{WorkerView, found_in};
+ghost use Rattle.move_workers.specs.Teams.{AreAll, leader};
+
+use crate::job::{Job, Verdict, work};
+use crate::kit::Kit;
+use crate::worker::Worker;
+use claim_board::{Board, Pass};
+use plan_facts::{List, Memory};
+use plan_moves::MoveMaker;
+use plan_ports::Gate;
+use plan_rules::{Book, Judges, Kept, KeyBody, Rules, TestBody, WeighBody};
+use plan_search::Found;
+use std::alloc::Global;
+use std::marker::PhantomData;
+use std::thread;
+use std::thread::Threads;
+
+/// As many empty slots.
+fn empty_slots(alloc: Global, count: u32) -> Result<Vec<Option<Found>>, Memory>
+    ensures slots { IfOk result (λ slots. slots.items ≡ replicate count None) }
+    ensures len { IfOk result (λ slots. vec_len slots ≡ count) }
+{
+    let mut slots = Vec::with_capacity(alloc, count as usize)?;
+    'slots: for _ in 0..count {
+        slots.push(None)?;
+    }
+    Ok(slots)
+}
+
+/// A job for each pass, with a worker.
+fn deal<B: Book>(
+    alloc: Global,
+    workers: &mut Vec<Worker<B>>,
+    mut passes: List<Pass>,
+    jobs: &mut Vec<Job<Worker<B>>>,
+)
+    requires some { length passes ≤ vec_len workers.old }
+    requires room { (vec_len jobs.old ≡ 0) × (length passes ≤ vec_capacity jobs.old) }
+    ensures jobs { vec_len jobs.new ≡ length passes }
+    ensures left { vec_len workers.new + length passes ≡ vec_len workers.old }
+    ensures room { vec_capacity workers.new ≡ vec_capacity workers.old }
+    ensures alike { (worker : WorkerView) → AreAll worker workers.old.items → AreAll worker workers.new.items }
+    ensures idle { (board : BoardView) (worker : WorkerView) → AreAll (fresh_pass board) passes
+        → AreAll worker workers.old.items → All (IsIdle board worker) jobs.new.items }
+{
+    'passes: while let Some(pass) = passes.pop() {
+        let Some(worker) = workers.pop() else {
+            unreachable!()
+        };
+        jobs.push_reserved(Job {
+            worker,
+            pass,
+            verdicts: Vec::new(alloc),
+            is_short: false,
+        });
+    }
+}
+
+/// What the workers share while they judge a batch: a step's candidates, from a first number on, one for each number of a board.
+#[derive(Drop)]
+struct Batch<'a, 'k, B, G> {
+    kit: &'a Kit<'k, B>,
+    gate: &'a G,
+    board: &'a Board,
+    step: u32,
+    first: u32,
+}
+
+/// The types of the rules' closures. What is asked of a job in a thread of its own has to name them.
+type Bodies = PhantomData<(TestBody, KeyBody, WeighBody)>;
+
+/// Works a job of a batch.
+fn work_one<B: Book, G: Gate>(
+    job: &mut Job<Worker<B>>,
+    batch: &Batch<'_, '_, B, G>,
+    _bodies: Bodies,
+)
+    requires judges { let seen = job.old.worker.director in
+        ⟦<Rules<B> as Judges>⟧.judges batch.now.kit.now.rules.now seen.weights (sizes_of seen.plan) }
+    requires own { batch.now.kit.now.rules.now.defs ≡ job.old.worker.director.rules }
+    requires seed { batch.now.kit.now.seed ≡ job.old.worker.seed }
+    requires step { 1 ≤ batch.now.step }
+    requires fits { batch.now.first + batch.now.board.now.limit < 2 ^ 32 }
+    requires idle { IsIdle batch.now.board.now job.old.worker job.old }
+    ensures { let makes = map (λ maker. made maker) batch.now.kit.now.makers.now in
+        let kit = batch.now.kit.now in
+        let found = found_in B.meaning kit.seed kit.selectors.now makes batch.now.step job.old.worker in
+        IsWorked batch.now.board.now job.old.worker (found_from found batch.now.first) job.new }
+{
+    work(
+        job,
+        batch.kit,
+        batch.gate,
+        batch.board,
+        batch.step,
+        batch.first,
+    );
+}
+
+/// Each job is worked, in a thread of its own where one can be made.
+fn run_each<T: Threads + Sync, B: Book, G: Gate + Sync>(
+    rt: &T,
+    batch: &Batch<'_, '_, B, G>,
+    jobs: &mut [Job<Worker<B>>],
+    bodies: Bodies,
+)
+    requires some { 0 < length jobs.old }
+    requires tests { All (λ test. TestAnswers (TestBody.post test.body) (B.meaning.test_of test.number))
+        batch.now.kit.now.rules.now.tests }
+    requires keys { All (λ key. KeyAnswers (KeyBody.post key.body) (B.meaning.key_of key.number))
+        batch.now.kit.now.rules.now.keys }
+    requires weighs { All (λ w. WeighAnswers (WeighBody.post w.body) w.cap (B.meaning.weight_of w.number))
+        batch.now.kit.now.rules.now.weighs }
+    requires ready { let rules = batch.now.kit.now.rules.now in
+        All (IsReady batch.now.board.now rules.defs rules.caps batch.now.kit.now.seed) jobs.old }
+    requires step { 1 ≤ batch.now.step }
+    requires fits { batch.now.first + batch.now.board.now.limit < 2 ^ 32 }
+    ensures { let makes = map (λ maker. made maker) batch.now.kit.now.makers.now in
+        let found = found_in B.meaning batch.now.kit.now.seed batch.now.kit.now.selectors.now makes batch.now.step in
+        (i : ℕ) (d : Job WorkerView) → i < length jobs.old → let worker = (slice_index_or jobs.old i d).worker in
+        IsWorked batch.now.board.now worker (found_from (found worker) batch.now.first) (slice_index_or jobs.new i d) }
+{
+    let threads = jobs.len();
+    thread::for_each_mut(
+        rt,
+        jobs,
+        threads,
+        &|_place: usize, job: &mut Job<Worker<B>>|
+            requires tests { All (λ test. TestAnswers (TestBody.post test.body) (B.meaning.test_of test.number))
+                batch.now.kit.now.rules.now.tests }
+            requires keys { All (λ key. KeyAnswers (KeyBody.post key.body) (B.meaning.key_of key.number))
+                batch.now.kit.now.rules.now.keys }
+            requires weighs { All (λ w. WeighAnswers (WeighBody.post w.body) w.cap (B.meaning.weight_of w.number))
+                batch.now.kit.now.rules.now.weighs }
+            requires ready { let rules = batch.now.kit.now.rules.now in
+                IsReady batch.now.board.now rules.defs rules.caps batch.now.kit.now.seed job.old }
+            requires at { (1 ≤ batch.now.step) × (batch.now.first + batch.now.board.now.limit < 2 ^ 32) }
+            ensures { let batch = batch.entry.now in
+                let makes = map (λ maker. made maker) batch.kit.now.makers.now in
+                let found = found_in B.meaning batch.kit.now.seed batch.kit.now.selectors.now makes batch.step in
+                IsWorked batch.board.now job.old.worker (found_from (found job.old.worker) batch.first) job.new }
+        {
+            work_one(job, batch, bodies);
+        },
+    );
+}
+
+/// The same of a whole list.
+fn run_jobs<T: Threads + Sync, B: Book, G: Gate + Sync>(
+    rt: &T,
+    batch: &Batch<'_, '_, B, G>,
+    jobs: &mut Vec<Job<Worker<B>>>,
+)
+    requires some { 0 < length jobs.old.items }
+    requires keeps { ⟦<Rules<B> as Kept>⟧.keeps batch.now.kit.now.rules.now }
+    requires ready { let rules = batch.now.kit.now.rules.now in
+        All (IsReady batch.now.board.now rules.defs rules.caps batch.now.kit.now.seed) jobs.old.items }
+    requires step { 1 ≤ batch.now.step }
+    requires fits { batch.now.first + batch.now.board.now.limit < 2 ^ 32 }
+    ensures worked { let makes = map (λ maker. made maker) batch.now.kit.now.makers.now in
+        let found = found_in B.meaning batch.now.kit.now.seed batch.now.kit.now.selectors.now makes batch.now.step in
+        (worker : WorkerView) → All (λ job. job.worker ≡ worker) jobs.old.items
+        → All (IsWorked batch.now.board.now worker (found_from (found worker) batch.now.first)) jobs.new.items }
+    ensures len { vec_len jobs.new ≡ vec_len jobs.old }
+{
+    run_each(rt, batch, jobs.as_mut_slice(), PhantomData);
+}
+
+/// Puts what was found into a slot.
+fn fill(slot: &mut Option<Found>, found: Option<Found>)
+    ensures { slot.new ≡ found }
+{
+    *slot = found;
+}
+
+/// Puts what was found into the slots.
+fn place(slots: &mut [Option<Found>], verdicts: Vec<Verdict>)
+    requires { AreBelow (length slots.old) verdicts.items }
+    ensures { slots.new ≡ placed slots.old verdicts.items }
+{
+    'verdicts: for verdict in verdicts {
+        fill(&mut slots[verdict.place as usize], verdict.found);
+    }
+}
+
+/// The same of a whole list.
+fn place_in(slots: &mut Vec<Option<Found>>, verdicts: Vec<Verdict>)
+    requires { AreBelow (vec_len slots.old) verdicts.items }
+    ensures slots { slots.new.items ≡ placed slots.old.items verdicts.items }
+    ensures len { vec_len slots.new ≡ vec_len slots.old }
+{
+    place(slots.as_mut_slice(), verdicts);
+}
+
+/// Takes a job apart: its worker and its pass go back, and what it found into its slots. False where memory was wanting.
+fn take_apart<B: Book>(
+    job: Job<Worker<B>>,
+    workers: &mut Vec<Worker<B>>,
+    passes: &mut List<Pass>,
+    slots: &mut Vec<Option<Found>>,
+) -> bool
+    requires room { vec_len workers.old < vec_capacity workers.old }
+    requires below { AreBelow (vec_len slots.old) job.verdicts.items }
+    ensures workers { workers.new.items ≡ workers.old.items ++ job.worker ∷ [] }
+    ensures count { vec_len workers.new ≡ vec_len workers.old + 1 }
+    ensures room { vec_capacity workers.new ≡ vec_capacity workers.old }
+    ensures len { vec_len slots.new ≡ vec_len slots.old }
+    ensures passes { result ≡ true → passes.new ≡ passes.old ++ job.pass ∷ [] }
+    ensures whole { result ≡ true → job.is_short ≡ false }
+    ensures slots { result ≡ true → slots.new.items ≡ placed slots.old.items job.verdicts.items }
+{
+    let Job {
+        worker,
+        pass,
+        verdicts,
+        is_short,
+    } = job;
+    workers.push_reserved(worker);
+    if is_short {
+        return false;
+    }
+    place_in(slots, verdicts);
+    passes.push(pass).is_ok()
+}
+
+/// Takes all jobs apart. False where memory was wanting.
+fn gather<B: Book>(
+    mut jobs: Vec<Job<Worker<B>>>,
+    workers: &mut Vec<Worker<B>>,
+    passes: &mut List<Pass>,
+    slots: &mut Vec<Option<Found>>,
+) -> bool
+    requires room { vec_len workers.old + vec_len jobs ≤ vec_capacity workers.old }
+    requires below { All (λ job. AreBelow (vec_len slots.old) job.verdicts.items) jobs.items }
+    requires none { passes.old ≡ [] }
+    ensures workers { vec_len workers.new ≡ vec_len workers.old + vec_len jobs }
+    ensures alike { (worker : WorkerView) → AreAll worker workers.old.items
+        → All (λ job. job.worker ≡ worker) jobs.items → AreAll worker workers.new.items }
+    ensures len { vec_len slots.new ≡ vec_len slots.old }
+    ensures passes { result ≡ true → length passes.new ≡ vec_len jobs }
+    ensures gathered { result ≡ true → (board : BoardView) (worker : WorkerView) (found : ℕ → Option Found)
+        → All (IsWorked board worker found) jobs.items → IsGathered board found passes.new slots.new.items }
+{
+    let mut is_whole = true;
+    'jobs: while let Some(job) = jobs.pop() {
+        let taken = take_apart(job, workers, passes, slots);
+        if !taken {
+            is_whole = false;
+        }
+    }
+    is_whole
+}
+
+/// What is found of so many candidates, by as many workers at once as there are passes.
+fn judged_at_once<T: Threads + Sync, B: Book, G: Gate + Sync>(
+    rt: &T,
+    alloc: Global,
+    kit: &Kit<'_, B>,
+    gate: &G,
+    workers: &mut Vec<Worker<B>>,
+    hands: u32,
+    step: u32,
+    first: u32,
+    count: u32,
+) -> Result<Vec<Option<Found>>, Memory>
+    requires hands { (1 ≤ hands) × (hands ≤ 16) × (hands ≤ vec_len workers.old) }
+    requires alike { AreAll (leader workers.old.items) workers.old.items }
+    requires judges { let seen = (leader workers.old.items).director in
+        ⟦<Rules<B> as Judges>⟧.judges kit.now.rules.now seen.weights (sizes_of seen.plan) }
+    requires own { kit.now.rules.now.defs ≡ (leader workers.old.items).director.rules }
+    requires seed { kit.now.seed ≡ (leader workers.old.items).seed }
+    requires step { 1 ≤ step }
+    requires fits { first + count < 2 ^ 32 }
+    ensures found { let makes = map (λ maker. made maker) kit.now.makers.now in
+        let found = found_in B.meaning kit.now.seed kit.now.selectors.now makes step (leader workers.old.items) in
+        IfOk result (λ all. all.items ≡ map found (range_with_len first count)) }
+    ensures len { vec_len workers.new ≡ vec_len workers.old }
+    ensures alike { AreAll (leader workers.old.items) workers.new.items }
+{
+    let mut slots = empty_slots(alloc, count)?;
+    let mut jobs = Vec::with_capacity(alloc, hands as usize)?;
+    let mut returned = List::new(alloc);
+    let (board, passes) = Board::new(alloc, count, hands)?;
+    deal(alloc, workers, passes, &mut jobs);
+    let batch = Batch {
+        kit,
+        gate,
+        board: &board,
+        step,
+        first,
+    };
+    run_jobs(rt, &batch, &mut jobs);
+    let is_whole = gather(jobs, workers, &mut returned, &mut slots);
+    if !is_whole {
+        return Err(Memory);
+    }
+    board.close(returned);
+    Ok(slots)
+}
+
+/// What is found of so many candidates from the first number on, in order, by as many workers as there are candidates for. The
+/// workers stay as they were. Where one worker is enough no thread is started, and it judges in the thread that calls.
+pub fn judged_by<T: Threads + Sync, B: Book, G: Gate + Sync>(
+    rt: &T,
+    alloc: Global,
+    kit: &Kit<'_, B>,
+    gate: &G,
+    workers: &mut Vec<Worker<B>>,
+    step: u32,
+    first: u32,
+    count: u32,
+) -> Result<Vec<Option<Found>>, Memory>
+    requires workers { (1 ≤ vec_len workers.old) × (vec_len workers.old ≤ 16) }
+    requires alike { AreAll (leader workers.old.items) workers.old.items }
+    requires judges { let seen = (leader workers.old.items).director in
+        ⟦<Rules<B> as Judges>⟧.judges kit.now.rules.now seen.weights (sizes_of seen.plan) }
+    requires own { kit.now.rules.now.defs ≡ (leader workers.old.items).director.rules }
+    requires seed { kit.now.seed ≡ (leader workers.old.items).seed }
+    requires step { 1 ≤ step }
+    requires fits { first + count < 2 ^ 32 }
+    ensures found { let makes = map (λ maker. made maker) kit.now.makers.now in
+        let found = found_in B.meaning kit.now.seed kit.now.selectors.now makes step (leader workers.old.items) in
+        IfOk result (λ all. all.items ≡ map found (range_with_len first count)) }
+    ensures len { vec_len workers.new ≡ vec_len workers.old }
+    ensures alike { AreAll (leader workers.old.items) workers.new.items }
+{
+    let hands = count.min(workers.len() as u32).max(1);
+    judged_at_once(rt, alloc, kit, gate, workers, hands, step, first, count)
+}

@@ -7,7 +7,9 @@ use super::*;
 use plan_facts::{List, is_name};
 use plan_ports::{MemFile, MemShelf, MemSink};
 use plan_rules::{Kept, Rules, Test, Weigh};
-use rows::{APART, PARTS, REFUSED, ROWS, TOGETHER, TOGETHER_TEXT};
+use rows::{
+    APART, FIRST_OF_TWO, FIRST_TAKEN, HANDS, MOVED, PARTS, REFUSED, ROWS, TOGETHER, TOGETHER_TEXT,
+};
 use shipped_domains::{Row, TestBody, WeighBody, shipped_test, shipped_weight};
 use std::process::Abort;
 use std::test::Fail;
@@ -183,6 +185,37 @@ fn runs_print_what_was_worked_by_hand(rt: HostRuntime) -> Result<(), Fail> {
         expect(&rt, outcome, &filled(alloc, case.text)?, case.status);
     }
     Ok(())
+}
+
+fn asked_hands(alloc: Global, problem: &str) -> Result<Vec<Asked>, Memory> {
+    let mut asked = Vec::new(alloc);
+    for words in HANDS {
+        let mut one = solved(alloc, filled(alloc, problem)?);
+        one.words = words;
+        asked.push(one)?;
+    }
+    Ok(asked)
+}
+
+/// All workers and buffers print the same of a problem.
+fn expect_moved<T: Threads + Wait + Sync + Abort>(
+    rt: &T,
+    alloc: Global,
+    problem: &str,
+) -> Result<(), Fail> {
+    let outcomes = outcomes(rt, alloc, asked_hands(alloc, problem)?)?;
+    let text = filled(alloc, MOVED)?;
+    assert_eq!(rt; outcomes.len(), HANDS.len());
+    for outcome in &outcomes {
+        expect(rt, outcome, &text, Status::Ok);
+    }
+    Ok(())
+}
+
+#[test]
+fn any_workers_and_buffers_print_the_same(rt: HostRuntime) -> Result<(), Fail> {
+    expect_moved(&rt, rt.alloc(), FIRST_TAKEN)?;
+    expect_moved(&rt, rt.alloc(), FIRST_OF_TWO)
 }
 
 fn asked_refused(alloc: Global) -> Result<Vec<Asked>, Memory> {

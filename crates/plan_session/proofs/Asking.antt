@@ -1,6 +1,9 @@
--- A step that one worker judges: what its asked numbers allow, and what their verdicts leave.
-use Rattle.std.proofs.Common.{◌≡◌, ◌∙◌, ℕ, ◌+◌, ◌-◌, ◌<◌, ◌≤◌, List, ◌∷◌, Option, sym, ap, subst, arith, Result, Ok, Err, IfOk, ◌⊎◌, inl, inr}
+-- A step that a team judges: what its asked numbers allow, and what their verdicts leave.
+use Rattle.std.proofs.Common.{◌≡◌, ◌∙◌, ℕ, suc, ◌+◌, ◌-◌, ◌<◌, ◌≤◌, List, [], ◌∷◌, ◌++◌, length, map, get_or, length-append, Option, None, refl, sym, ap, subst, arith, Result, Ok, Err, IfOk, ◌⊎◌, inl, inr}
 use Rattle.std.specs.Result.{OnOk}
+use Rattle.std.specs.List.{range_with_len}
+use Rattle.std.proofs.lemmas.List.FromFn.{get_or-map-range_with_len, length-map-range_with_len}
+use Rattle.std.proofs.Math.Seq.{get_or-append_seam}
 use Rattle.acceptors.specs.History.{History}
 use Rattle.plan_search.specs.declared.found.Found.{Found}
 use Rattle.search_core.specs.declared.event.Event.{Event}
@@ -10,27 +13,24 @@ use Rattle.search_core.specs.declared.event.Reply.TheVariants.{Noted, Leg, More,
 use Rattle.search_core.specs.declared.machine.Core.{Core}
 use Rattle.search_core.specs.Desk.{Desk, Terms, choose_reply, desk}
 use Rattle.search_core.specs.Keeps.{StandsFor}
-use Rattle.search_core.specs.OneThread.{BeginsAt, DecidesAt, InStep, JudgesAt, judge_events, step_events, winner_number}
+use Rattle.search_core.specs.OneThread.{BeginsAt, DecidesAt, JudgesAt, StandsWithFound, judge_events, step_events, winner_number}
 use Rattle.search_core.proofs.InStep.{judge_events-in}
-use Rattle.search_core.proofs.Plays.{Goes, goes-chosen, goes-more, judge_events-next, never-leg, never-noted}
-use Rattle.plan_session.specs.Asking.{AsksAt}
+use Rattle.search_core.proofs.Plays.{Goes, goes-chosen, goes-more, never-leg, never-noted}
+use Rattle.plan_session.specs.Asking.{AsksAt, HasAsked}
 
--- where some of the asked numbers are judged, the next one is to be judged
-abbrev pub asks-judges : (start core : Core) (k : ℕ) (found : ℕ → Option Found) (first count number : ℕ) (at : AsksAt start k found first count)
-    → first ≤ number → StandsFor at.terms core (judge_events k found first (number - first) at.events) → JudgesAt core k number
-asks-judges start core k found first count number at le stands =
-    let past : first + (number - first) ≡ number = omega arith in
-    record {
-      terms = at.terms;
-      events = judge_events k found first (number - first) at.events;
-      history = at.history;
-      found = found;
-      asked = first + count;
-      since = at.since;
-      stands = stands;
-      inside = subst (λ (n : ℕ). InStep (desk at.terms (judge_events k found first (number - first) at.events)) k at.history found (first + count) at.since n) past
-          (judge_events-in at.terms k at.history found (first + count) at.since first (number - first) at.events at.inside);
-    }
+-- where so many of the asked numbers are judged, the next one is to be judged
+abbrev pub asks-judges : (start core : Core) (k : ℕ) (found : ℕ → Option Found) (first count n : ℕ) (at : AsksAt start k found first count)
+    → StandsFor at.terms core (judge_events k found first n at.events) → JudgesAt core k (first + n)
+asks-judges start core k found first count n at stands = record {
+  terms = at.terms;
+  events = judge_events k found first n at.events;
+  history = at.history;
+  found = found;
+  asked = first + count;
+  since = at.since;
+  stands = stands;
+  inside = judge_events-in at.terms k at.history found (first + count) at.since first n at.events at.inside;
+}
 
 -- where all of them are judged, the step may be decided
 abbrev pub asks-decides : (start core : Core) (k : ℕ) (found : ℕ → Option Found) (first count : ℕ) (at : AsksAt start k found first count)
@@ -51,27 +51,52 @@ abbrev pub JudgesOn : Core → ℕ → (ℕ → Option Found) → ℕ → Core �
 JudgesOn core k found number new =
     (at : JudgesAt core k number) → StandsFor at.terms new (Judge 0 k number (found number) ∷ Claim 0 k number ∷ at.events)
 
--- the numbers from the first one up to this one are judged
-abbrev pub JudgedUpTo : Core → Core → ℕ → (ℕ → Option Found) → ℕ → ℕ → ℕ → Type 0
-JudgedUpTo start core k found first count number =
-    (at : AsksAt start k found first count) → StandsFor at.terms core (judge_events k found first (number - first) at.events)
+-- so many of the numbers that are asked are judged
+abbrev pub JudgedSoFar : (start core : Core) (k first : ℕ) (all : List (Option Found)) → ℕ → Type 0
+JudgedSoFar start core k first all n =
+    (asked : HasAsked start k first all) → StandsFor asked.at.terms core (judge_events k asked.found first n asked.at.events)
 
--- one number more is judged, by what a worker finds that is as before
-pub judged-next : {W : Type 0} (f : W → ℕ → Option Found) (worker now : W) (start core new : Core) (k first count number : ℕ)
-    → now ≡ worker → first ≤ number → JudgedUpTo start core k (f worker) first count number → JudgesOn core k (f now) number new
-    → JudgedUpTo start new k (f worker) first count (number + 1)
-judged-next f worker now start core new k first count number same le judged goes at =
-    let here : JudgesOn core k (f worker) number new = subst (λ w. JudgesOn core k (f w) number new) same goes in
-    subst (λ events. StandsFor at.terms new events) (sym (judge_events-next k (f worker) first number at.events le))
-    (here (asks-judges start core k (f worker) first count number at le (judged at)))
+-- what is found of the number at a place
+pub found_here : (found : ℕ → Option Found) (first : ℕ) (front rest all : List (Option Found)) (one : Option Found) → all ≡ front ++ one ∷ rest
+    → all ≡ map found (range_with_len first (length all)) → one ≡ found (first + length front)
+found_here found first front rest all one split is =
+    let within : length front < length all = rw split (omega (arith, length-append front (one ∷ rest))) in
+    sym (get_or-append_seam front one rest None)
+    ∙ ap (λ (l : List (Option Found)). get_or l (length front) None) (sym split ∙ is)
+    ∙ get_or-map-range_with_len found first (length all) (length front) (first + length front) None within refl
 
--- all asked numbers are judged
-pub judged-all : (start core : Core) (k : ℕ) (found : ℕ → Option Found) (first count number : ℕ) → number ≡ first + count
-    → JudgedUpTo start core k found first count number
-    → (at : AsksAt start k found first count) → StandsFor at.terms core (judge_events k found first count at.events)
-judged-all start core k found first count number end judged at =
-    let all : number - first ≡ count = omega arith in
-    subst (λ (n : ℕ). StandsFor at.terms core (judge_events k found first n at.events)) all (judged at)
+-- one number more is judged
+pub judged-next : (start core new : Core) (k first number : ℕ) (front rest all : List (Option Found)) (one : Option Found) → all ≡ front ++ one ∷ rest
+    → number ≡ first + length front → JudgedSoFar start core k first all (length front) → StandsWithFound core k number one new
+    → JudgedSoFar start new k first all (length (front ++ one ∷ []))
+judged-next start core new k first number front rest all one split is judged goes asked =
+    let one_is : one ≡ asked.found number =
+    found_here asked.found first front rest all one split asked.all_is ∙ ap asked.found (sym is) in
+    let more : length (front ++ one ∷ []) ≡ suc (length front) = omega (arith, length-append front (one ∷ [])) in
+    let here : StandsWithFound core k (first + length front) (asked.found (first + length front)) new =
+    subst (λ (n : ℕ). StandsWithFound core k n (asked.found n) new) is (subst (λ o. StandsWithFound core k number o new) one_is goes) in
+    subst (λ (n : ℕ). StandsFor asked.at.terms new (judge_events k asked.found first n asked.at.events)) (sym more)
+    (here (asks-judges start core k asked.found first (length all) (length front) asked.at (judged asked)))
+
+-- what is found of all numbers that are asked, as a team gives it
+abbrev pub all-asked : (core : Core) (k : ℕ) (found : ℕ → Option Found) (first count : ℕ) (all : List (Option Found)) → all ≡ map found (range_with_len first count)
+    → AsksAt core k found first count → HasAsked core k first all
+all-asked core k found first count all is at =
+    let len : length all ≡ count = ap (λ (l : List (Option Found)). length l) is ∙ length-map-range_with_len found first count in
+    record {
+      found = found;
+      at = subst (λ (n : ℕ). AsksAt core k found first n) (sym len) at;
+      all_is = subst (λ (n : ℕ). all ≡ map found (range_with_len first n)) (sym len) is;
+    }
+
+-- where all numbers of what a team gave are told, the core stands for the events of as many as were asked
+pub all-told : (core new : Core) (k : ℕ) (found : ℕ → Option Found) (first count : ℕ) (all : List (Option Found)) → all ≡ map found (range_with_len first count)
+    → JudgedSoFar core new k first all (length all) → (at : AsksAt core k found first count) → StandsFor at.terms new (judge_events k found first count at.events)
+all-told core new k found first count all is told =
+    let len : length all ≡ count = ap (λ (l : List (Option Found)). length l) is ∙ length-map-range_with_len found first count in
+    subst
+    (λ (n : ℕ). all ≡ map found (range_with_len first n) → (at : AsksAt core k found first n) → StandsFor at.terms new (judge_events k found first n at.events))
+    len (λ same at. told (record { found = found; at = at; all_is = same })) is
 
 -- what a batch leaves: the core decides, and goes on with the events
 pub record PlaysOn (core : Core) (k : ℕ) (found : ℕ → Option Found) (first count : ℕ) (reply : Reply) (new : Core) : Type 0 where

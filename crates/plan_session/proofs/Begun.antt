@@ -19,6 +19,7 @@ use Rattle.plan_reports.specs.declared.line.Line.TheVariants as line
 use Rattle.plan_reports.specs.Lines.{line_text, lines_text}
 use Rattle.plan_ports.specs.Outside.{SinkState}
 use Rattle.score_director.specs.View.{DirectorView, at_rest, score_seen}
+use Rattle.plan_search.specs.Leg.{state_of}
 use Rattle.plan_search.specs.Placing.{placing_of}
 use Rattle.plan_search.specs.Posed.{Posed, is_decreasing, placing_from, plan_score, state_score, todo_of}
 use Rattle.plan_search.specs.Quiet.{best_lines_after, leg_after, lines_after}
@@ -41,7 +42,7 @@ use Rattle.plan_session.specs.declared.fault.PrintFault.{PrintFault}
 use Rattle.plan_session.specs.declared.fault.PrintFault.TheVariants.{Memory, Write}
 use Rattle.plan_session.specs.declared.report.Report.{Report}
 use Rattle.plan_session.specs.Begun.{BeginsLeg, IsBegun, IsOrigin, IsPosedBy, best_text}
-use Rattle.plan_session.specs.Course.{HasPrinted, IsAt, IsDecider, IsInCourse, IsReady, Plays, best_after, state_after, terms}
+use Rattle.plan_session.specs.Course.{BareLeg, HasPrinted, IsAfter, IsAt, IsDecider, IsReady, Plays, best_in, terms}
 use Rattle.plan_session.specs.Printing.{Prints}
 use Rattle.plan_session.specs.WayBack.{IsWayBack}
 use Rattle.plan_session.specs.Writes.{IsReportOf}
@@ -76,21 +77,22 @@ leg_begins t score some =
     }
 
 -- a core on which a leg begins with the score of the placed plan decides the first step
-pub leg_decides : (posed : Posed) (core : Core) (score : PlanScore) → score ≡ state_score posed (state_after posed 0)
-    → BeginsLeg posed.settings score core → IsDecider posed 0 core
-leg_decides posed core score is begins = record {
+pub leg_decides : (posed : Posed) (buffer : ℕ) (core : Core) (score : PlanScore) → score ≡ state_score posed (state_of (leg_after posed 0))
+    → BeginsLeg posed.settings buffer score core → IsDecider posed 1 (leg_after posed 0) core
+leg_decides posed buffer core score is begins = record {
+  buffer = buffer;
   events = Start score ∷ Cut 0 ∷ [];
   stands = begins;
-  taken = leg_is_taken (terms posed) score;
+  taken = leg_is_taken (terms posed buffer) score;
   begins = λ some.
-      subst (λ s. BeginsStep (terms posed) (desk (terms posed) (Start score ∷ Cut 0 ∷ [])) 1 (begun s)) is
-      (leg_begins (terms posed) score some);
+      subst (λ s. BeginsStep (terms posed buffer) (desk (terms posed buffer) (Start score ∷ Cut 0 ∷ [])) 1 (begun s)) is
+      (leg_begins (terms posed buffer) score (omega (arith, some)));
 }
 
 -- a core that decides the first step is ready for it
-pub decider_ready : (posed : Posed) (core : Core) → IsDecider posed 0 core → 0 < posed.settings.steps → IsReady core 1
+pub decider_ready : (posed : Posed) (core : Core) → IsDecider posed 1 (leg_after posed 0) core → 0 < posed.settings.steps → IsReady core 1
 decider_ready posed core d some = record {
-  begins = record { terms = terms posed; events = d.events; history = _; stands = d.stands; begins = d.begins some };
+  begins = record { terms = terms posed d.buffer; events = d.events; history = _; stands = d.stands; begins = d.begins (omega (arith, some)) };
   taken = d.taken;
 }
 
@@ -108,27 +110,27 @@ module _ (m : Meaning) (makers : List Made) (domain : DomainView) (settings : Se
       (todo_by (by.means i) (by.harder i) (is_decreasing (by.settings_are i).construction) (origin.plan_is i)))
 
   -- the score of a director at rest is that of the state
-  pub score_is : (weights : List ℕ) (plan : PlanView) → weights ≡ posed.origin.weights → plan ≡ (state_after posed 0).plan
-      → whole_score m domain.rules weights plan ≡ state_score posed (state_after posed 0)
+  pub score_is : (weights : List ℕ) (plan : PlanView) → weights ≡ posed.origin.weights → plan ≡ (state_of (leg_after posed 0)).plan
+      → whole_score m domain.rules weights plan ≡ state_score posed (state_of (leg_after posed 0))
   unfolding plan_score
   score_is weights plan are is = λ i. whole_score (by.means i) (by.rules i) (are i) (is i)
 
   -- the director of a placed plan and a core on which a leg begins with its score are where the search begins
-  pub begins : (plan : PlanView) (weights : List ℕ) (course : Course) (director : DirectorView) (core : Core) (score : PlanScore)
+  pub begins : (plan : PlanView) (weights : List ℕ) (buffer : ℕ) (course : Course) (director : DirectorView) (core : Core) (score : PlanScore)
       → IsOrigin plan weights posed
       → course_of course director.plan
       ≡ placing_of (whole_score m domain.rules weights) plan (todo_by m domain.harder (is_decreasing settings.construction) plan)
       → director ≡ at_rest domain.rules weights director.plan
-      → score ≡ score_seen m director → BeginsLeg settings score core
+      → score ≡ score_seen m director → BeginsLeg settings buffer score core
       → IsBegun posed director core
-  begins plan weights course director core score origin placing rest scored leg =
-      let placed : director.plan ≡ (state_after posed 0).plan =
+  begins plan weights buffer course director core score origin placing rest scored leg =
+      let placed : director.plan ≡ (state_of (leg_after posed 0)).plan =
       ap (λ p. p.plan) (placing_is plan weights course director.plan origin placing) in
       record {
         stands = rest ∙ (λ i. at_rest (by.rules i) (origin.weights_are i) (placed i));
-        decides = leg_decides posed core score
+        decides = leg_decides posed buffer core score
             (scored ∙ ap (score_seen m) rest ∙ score_is weights director.plan origin.weights_are placed)
-            (subst (λ s. BeginsLeg s score core) by.settings_are leg);
+            (subst (λ s. BeginsLeg s buffer score core) by.settings_are leg);
         quiet = leg.keeps.posts;
       }
 
@@ -154,7 +156,7 @@ module _ (m : Meaning) (makers : List Made) (domain : DomainView) (settings : Se
       ≡ text_of posed (opening_lines no_feed posed (leg_after posed 0))
   opening_is classes rules plan weights course placed score classes_are rules_are origin is scored =
       let placing = placing_is plan weights course placed origin is in
-      let score_at : score ≡ state_score posed (state_after posed 0) =
+      let score_at : score ≡ state_score posed (state_of (leg_after posed 0)) =
       scored ∙ score_is weights placed origin.weights_are (ap (λ p. p.plan) placing) in
       λ i. lines_text ((classes_are ∙ by.classes) i) ((rules_are ∙ by.rules) i)
       (line.Leg 0 ∷ placing_lines (placing i).placed (placing i).stuck ++ line.Start (score_at i) ∷ [])
@@ -162,21 +164,23 @@ module _ (m : Meaning) (makers : List Made) (domain : DomainView) (settings : Se
   -- a worker on the director, and the way back that begins, are where the search begins
   pub starts_at : (director : DirectorView) (core : Core) (worker : WorkerView) (best : BestSoFar) (score : PlanScore)
       → IsBegun posed director core → worker ≡ record { director = director; seed = settings.seed }
-      → score ≡ score_seen m director → best.score ≡ score → best.back.items ≡ []
-      → IsInCourse core worker best posed 0
+      → score ≡ score_seen m director → best.score ≡ score → best.back.items ≡ [] → best.wins ≡ 0
+      → IsAfter core worker best posed 0
   unfolding plan_score
-  starts_at director core worker best score begun worker_is scored best_is none =
-      let scored_at : best.score ≡ state_score posed (state_after posed 0) =
+  starts_at director core worker best score begun worker_is scored best_is none unwon =
+      let scored_at : best.score ≡ state_score posed (state_of (leg_after posed 0)) =
       best_is ∙ scored ∙ (λ i. score_seen (by.means i) (begun.stands i)) in
       record {
         decides = begun.decides;
         at = record {
           stands = worker_is ∙ (λ i. record { director = begun.stands i; seed = (by.settings_are i).seed });
           score = scored_at;
-          greatest = ap (is_better_plan (state_score posed (state_after posed 0))) scored_at
-              ∙ not_better_than_itself (state_score posed (state_after posed 0));
-          back = subst (λ items. IsWayBack (best_after posed 0).plan items (state_after posed 0).plan) (sym none) refl;
+          greatest = ap (is_better_plan (state_score posed (state_of (leg_after posed 0)))) scored_at
+              ∙ not_better_than_itself (state_score posed (state_of (leg_after posed 0)));
+          back = subst (λ items. IsWayBack (best_in posed (leg_after posed 0)).plan items (state_of (leg_after posed 0)).plan) (sym none) refl;
+          wins = unwon;
         };
+        few = omega arith;
       }
 
 -- the same is printed whatever the call answers beside it
@@ -304,10 +308,10 @@ module _ (m : Meaning) (makers : List Made) (domain : DomainView) (settings : Se
   reports_by report classes_are rules_are = record { classes = classes_are ∙ by.classes; rules = rules_are ∙ by.rules }
 
 -- the way back leads from the worker's plan
-pub way_from : (posed : Posed) (n : ℕ) (worker : WorkerView) (best : BestSoFar) (plan : PlanView) → IsAt posed n worker best
-    → plan ≡ worker.director.plan → IsWayBack (best_after posed n).plan best.back.items plan
-way_from posed n worker best plan at is =
-    subst (λ p. IsWayBack (best_after posed n).plan best.back.items p)
+pub way_from : (posed : Posed) (leg : BareLeg) (worker : WorkerView) (best : BestSoFar) (plan : PlanView) → IsAt posed leg worker best
+    → plan ≡ worker.director.plan → IsWayBack (best_in posed leg).plan best.back.items plan
+way_from posed leg worker best plan at is =
+    subst (λ p. IsWayBack (best_in posed leg).plan best.back.items p)
     (sym (is ∙ ap (λ (w : WorkerView). w.director.plan) at.stands)) at.back
 
 -- the best plan is written into an empty buffer

@@ -4,6 +4,7 @@ use Rattle.std.specs.Option.{option_and_then, option_map}
 use Rattle.std.proofs.lemmas.List.{length-replicate}
 use Rattle.std.proofs.lemmas.Option.{slice_get-get_or, slice_get-map}
 use Rattle.plan_ports.specs.Outside.{Holds, ShelfState, SinkState}
+use Rattle.plan_search.specs.Posed.{Posed}
 use Rattle.plan_session.specs.Posed.{posed_in}
 use Rattle.plan_rules.specs.Meaning.{Meaning}
 use Rattle.move_selectors.specs.Candidates.{Made}
@@ -17,26 +18,26 @@ use Rattle.plan_words.specs.declared.command.Command.TheVariants.{Solve, Replay,
 use Rattle.plan_session.specs.declared.status.Status.{Status}
 use Rattle.plan_session.specs.declared.status.Status.TheVariants as status
 use Rattle.plan_session.specs.declared.task.Wanted.{Wanted}
-use Rattle.plan_session.specs.Due.{DueForBytes, DueForProblem, DueGenerated, DueMade, DueUnread, DueUsage, IsDue, Run, generated_text, usage_line}
+use Rattle.plan_session.specs.Due.{DueForBytes, DueForProblem, DueForTour, DueGenerated, DueUnread, DueUsage, IsDue, Run, generated_text, usage_line}
 use Rattle.plan_session.specs.Ending.{Ended, Says}
-use Rattle.plan_session.specs.Task.{Task, generated_by, generation_asked, task_asked, task_of, text_wanted}
+use Rattle.plan_session.specs.Task.{Task, generated_by, generation_asked, task_asked, task_of, text_wanted, tour_asked, toured_by}
 use Rattle.plan_session.proofs.EndingLaws.{ended_saying}
 
 -- what is due for a problem is due for its bytes
-pub due_for_bytes : (domains : List DomainView) (makers : List (List Made)) (meaning : Meaning) (wanted : Wanted) (bytes : List ℕ) (p : ProblemView)
+pub due_for_bytes : (domains : List DomainView) (makers : List (List Made)) (meaning : Meaning) (wants : Posed → List ℕ) (bytes : List ℕ) (p : ProblemView)
     (d : DomainView) (made : List Made) → problem_of domains bytes ≡ Ok p → slice_get domains p.domain ≡ Some d → slice_get makers p.domain ≡ Some made
-    → (s : Status) (text : List ℕ) → DueForProblem meaning made wanted d p s text → DueForBytes domains makers meaning wanted bytes s text
-due_for_bytes domains makers meaning wanted bytes p d made accepted stands makes status.Ok text due =
+    → (s : Status) (text : List ℕ) → DueForProblem meaning made wants d p s text → DueForBytes domains makers meaning wants bytes s text
+due_for_bytes domains makers meaning wants bytes p d made accepted stands makes status.Ok text due =
     record { problem = p; domain = d; made = made; accepted = accepted; stands = stands; makes = makes; says = due }
-due_for_bytes domains makers meaning wanted bytes p d made accepted stands makes _ text due = absurd due
+due_for_bytes domains makers meaning wants bytes p d made accepted stands makes _ text due = absurd due
 
 -- what is due for the bytes that a shelf holds is due for the task
 pub due_for_task : (run : Run) (task : Task) (bytes : List ℕ) → run.asked ≡ Some task → Holds run.shelf task.name bytes
-    → (s : Status) (text : List ℕ) → DueForBytes run.domains run.makers run.meaning task.wanted bytes s text → IsDue run s text
+    → (s : Status) (text : List ℕ) → DueForBytes run.domains run.makers run.meaning (text_wanted task.wanted) bytes s text → IsDue run s text
 due_for_task run task bytes asked held status.Ok text due =
     inl (record { task = task; bytes = bytes; asked = asked; held = held; answers = due })
 due_for_task run task bytes asked held status.Problem text due =
-    record { task = task; bytes = bytes; asked = asked; held = held; refuses = due }
+    inl (record { task = task; bytes = bytes; asked = asked; held = held; refuses = due })
 due_for_task run task bytes asked held _ text due = absurd due
 
 -- a shelf that doesn't tell its bytes may hold any
@@ -83,38 +84,69 @@ pub generates_nothing : (words : List (List ℕ)) → command words ≡ None →
 unfolding generation_asked
 generates_nothing words is = ap (option_and_then generated_by) is
 
--- a command that asks for something of a problem generates none
-pub asked_generates_nothing : (c : Command) (task : Task) → task_of c ≡ Some task → generated_by c ≡ None
-asked_generates_nothing (Solve name feed workers buffer) task is = refl
-asked_generates_nothing (Replay name feed journal) task is = refl
-asked_generates_nothing (Score name) task is = refl
-asked_generates_nothing (Explain name) task is = refl
+-- what a command asks to tour
+pub tours : (words : List (List ℕ)) (c : Command) (made : Option (ℕ × ℕ)) → command words ≡ Some c → toured_by c ≡ made → tour_asked words ≡ made
+unfolding tour_asked
+tours words c made is of_it = ap (option_and_then toured_by) is ∙ of_it
+
+pub tours_nothing : (words : List (List ℕ)) → command words ≡ None → tour_asked words ≡ None
+unfolding tour_asked
+tours_nothing words is = ap (option_and_then toured_by) is
+
+-- a command that asks for something of a problem that it names generates none
+pub asked_generates_nothing : (c : Command) (task : Task) → task_of c ≡ Some task → (generated_by c ≡ None) × (toured_by c ≡ None)
+asked_generates_nothing (Solve name feed workers buffer) task is = (refl, refl)
+asked_generates_nothing (Replay name feed journal) task is = (refl, refl)
+asked_generates_nothing (Score name) task is = (refl, refl)
+asked_generates_nothing (Explain name) task is = (refl, refl)
 asked_generates_nothing (Gen number size) task is = absurd cc
-asked_generates_nothing (Tour number size workers buffer) task is = refl
+asked_generates_nothing (Tour number size workers buffer) task is = absurd cc
 
 -- what is due under a status is due under the same one
 due_said : (run : Run) (said s : Status) (text : List ℕ) → s ≡ said → IsDue run said text → IsDue run s text
 due_said run said s text is due = subst (λ (given : Status). IsDue run given text) (sym is) due
 
-generated : (run : Run) (pair : ℕ × ℕ) (text : List ℕ) → run.generates ≡ Some pair → text ≡ generated_text pair.0 pair.1 → DueGenerated run text
-generated run pair text is says = record { number = pair.0; size = pair.1; generates = is; says = says }
+generated : (run : Run) (number size : ℕ) (text : List ℕ) → run.generates ≡ Some (number, size) → text ≡ generated_text number size → DueGenerated run text
+generated run number size text is says = record { number = number; size = size; generates = is; says = says }
 
-used : (run : Run) (text : List ℕ) → run.asked ≡ None → run.generates ≡ None → text ≡ usage_line → DueUsage run text
-used run text unasked ungenerated says = record { unasked = unasked; ungenerated = ungenerated; says = says }
+used : (run : Run) (s : Status) (text : List ℕ) → run.asked ≡ None → run.generates ≡ None → run.tours ≡ None → Says status.Usage usage_line s text → IsDue run s text
+used run s text unasked ungenerated untoured said =
+    let due : DueUsage run text = record { unasked = unasked; ungenerated = ungenerated; untoured = untoured; says = said.1 } in
+    due_said run status.Usage s text said.0 due
 
--- what is due for what is generated, or for nothing, is due in the run
-due_made : (run : Run) (made : Option (ℕ × ℕ)) → run.asked ≡ None → run.generates ≡ made → (s : Status) (text : List ℕ) → DueMade made s text → IsDue run s text
-due_made run (Some pair) unasked is s text said = due_said run status.Ok s text said.0 (inr (generated run pair text is said.1))
-due_made run None unasked is s text said = due_said run status.Usage s text said.0 (used run text unasked is said.1)
+-- what is due for a tour is due in the run that asks for it
+due_toured : (run : Run) (number size : ℕ) → run.tours ≡ Some (number, size) → (s : Status) (text : List ℕ)
+    → DueForTour run.domains run.makers run.meaning number size s text → IsDue run s text
+due_toured run number size is status.Ok text due = inr (inr (record { number = number; size = size; tours = is; due = due }))
+due_toured run number size is status.Problem text due = inr (record { number = number; size = size; tours = is; due = due })
+due_toured run number size is _ text due = absurd due
+
+-- for a command that neither generates a problem nor tours one, usage is due
+pub due_usage : (domains : List DomainView) (makers : List (List Made)) (meaning : Meaning) (c : Command)
+    → ((number size : ℕ) → c ≡ Gen number size → ⊥) → ((number size workers buffer : ℕ) → c ≡ Tour number size workers buffer → ⊥)
+    → (s : Status) (text : List ℕ) → Says status.Usage usage_line s text → DueUnread domains makers meaning c s text
+due_usage domains makers meaning (Gen number size) ungenerated untoured s text said = absurd (ungenerated number size refl)
+due_usage domains makers meaning (Tour number size workers buffer) ungenerated untoured s text said = absurd (untoured number size workers buffer refl)
+due_usage domains makers meaning (Solve name feed workers buffer) ungenerated untoured s text said = said
+due_usage domains makers meaning (Replay name feed journal) ungenerated untoured s text said = said
+due_usage domains makers meaning (Score name) ungenerated untoured s text said = said
+due_usage domains makers meaning (Explain name) ungenerated untoured s text said = said
 
 -- what is due for a command that reads no problem is due in the run
-pub due_unread : (run : Run) (c : Command) → run.asked ≡ None → run.generates ≡ generated_by c → (s : Status) (text : List ℕ) → DueUnread c s text → IsDue run s text
-due_unread run c unasked is s text due = due_made run (generated_by c) unasked is s text due
+pub due_unread : (run : Run) (c : Command) → run.asked ≡ None → run.generates ≡ generated_by c → run.tours ≡ toured_by c
+    → (s : Status) (text : List ℕ) → DueUnread run.domains run.makers run.meaning c s text → IsDue run s text
+due_unread run (Gen number size) unasked generates tours s text said =
+    due_said run status.Ok s text said.0 (inr (inl (generated run number size text generates said.1)))
+due_unread run (Tour number size workers buffer) unasked generates tours s text due = due_toured run number size tours s text due
+due_unread run (Solve name feed workers buffer) unasked generates tours s text said = used run s text unasked generates tours said
+due_unread run (Replay name feed journal) unasked generates tours s text said = used run s text unasked generates tours said
+due_unread run (Score name) unasked generates tours s text said = used run s text unasked generates tours said
+due_unread run (Explain name) unasked generates tours s text said = used run s text unasked generates tours said
 
 -- the text that is wanted of a problem was said, or a front of it
 pub ended_wanted : (meaning : Meaning) (makers : List Made) (wanted asked : Wanted) (d : DomainView) (p : ProblemView) (old new : SinkState) (result : Status)
     → asked ≡ wanted → Ended (Says status.Ok (text_wanted wanted (posed_in meaning makers d p))) old new result
-    → Ended (DueForProblem meaning makers asked d p) old new result
+    → Ended (DueForProblem meaning makers (text_wanted asked) d p) old new result
 ended_wanted meaning makers wanted asked d p old new result is ended =
-    ended_saying (DueForProblem meaning makers asked d p) status.Ok (text_wanted wanted (posed_in meaning makers d p)) old new result
+    ended_saying (DueForProblem meaning makers (text_wanted asked) d p) status.Ok (text_wanted wanted (posed_in meaning makers d p)) old new result
     (ap (λ w. text_wanted w (posed_in meaning makers d p)) (sym is)) ended

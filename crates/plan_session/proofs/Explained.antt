@@ -12,15 +12,14 @@ use Rattle.plan_facts.specs.declared.record.Raw.{Raw}
 use Rattle.plan_facts.specs.Plan.{PlanView, records_of}
 use Rattle.plan_rules.specs.declared.row.Match.{Match}
 use Rattle.plan_rules.specs.declared.rule.RuleDef.{RuleDef}
-use Rattle.plan_rules.specs.Totals.{all_matches, impact_sum, whole_score}
+use Rattle.plan_rules.specs.Totals.{all_matches, whole_score}
 use Rattle.plan_reports.specs.declared.line.Line.{Line}
 use Rattle.plan_reports.specs.declared.line.Line.TheVariants as line
 use Rattle.plan_reports.specs.Lines.{lines_text}
 use Rattle.plan_search.specs.Posed.{Posed, plan_score, state_score}
 use Rattle.plan_search.specs.RunLines.{matches_in, matches_lines}
-use Rattle.indictments.specs.declared.tally.Tally.{Tally}
-use Rattle.indictments.specs.Indicts.{Named, all_of, facts_in, facts_of, is_indicted, is_part, matches_with, named}
-use Rattle.indictments.specs.Tallies.{AreTallies, Entries, tally_in, tally_of}
+use Rattle.indictments.specs.Indicts.{Named, all_of, facts_in, is_indicted, is_part, matches_with, named}
+use Rattle.indictments.specs.Tallies.{AreTallies, Entries, tally_in}
 use Rattle.plan_session.specs.Explained.{explain_lines, explain_text, indict_line, indict_lines, tally_lines}
 use Rattle.plan_session.proofs.Grown.{written_more}
 

@@ -19,8 +19,8 @@ use Rattle.plan_search.specs.Posed.{Posed, State, candidate_at, move_of, plan_sc
 use Rattle.plan_search.specs.Quiet.{best_lines_after, game, leg_after}
 use Rattle.plan_search.specs.RunLines.{best_lines, text_of}
 use Rattle.plan_session.specs.Begun.{IsPosedBy, best_text}
-use Rattle.plan_session.specs.Course.{best_after, state_after}
-use Rattle.plan_session.proofs.Played.{best_next, next_of, state_next}
+use Rattle.plan_session.specs.Course.{best_in, step_in}
+use Rattle.plan_session.proofs.Played.{best_next, state_next}
 
 -- a step keeps the weights
 made_keeps : (posed : Posed) (k number : ℕ) (h : History) (before : State) (edit : Option (List Set))
@@ -41,32 +41,32 @@ either_keeps weights a b true of_a of_b = of_b
 either_keeps weights a b false of_a of_b = of_a
 
 -- a search keeps the weights
-state_keeps : (posed : Posed) (n : ℕ) → (state_after posed n).weights ≡ posed.origin.weights
+state_keeps : (posed : Posed) (n : ℕ) → (state_of (leg_after posed n)).weights ≡ posed.origin.weights
 state_keeps posed zero = refl
 state_keeps posed (suc n) =
     let leg = leg_after posed n in
-    ap (λ s. s.weights) (state_next posed n)
+    ap (λ s. s.weights) (state_next posed (suc n) (leg_after posed n))
     ∙ won_keeps posed (suc n) (history_of (game posed) leg) (state_of leg)
     (winning posed.settings (history_of (game posed) leg) (found_at (game posed) (suc n) (state_of leg)))
     ∙ state_keeps posed n
 
-pub best_keeps : (posed : Posed) (n : ℕ) → (best_after posed n).weights ≡ posed.origin.weights
+pub best_keeps : (posed : Posed) (n : ℕ) → (best_in posed (leg_after posed n)).weights ≡ posed.origin.weights
 best_keeps posed zero = refl
 best_keeps posed (suc n) =
-    let next = (next_of posed n).after in
-    let best = best_after posed n in
-    ap (λ s. s.weights) (best_next posed n)
+    let next = (step_in posed (suc n) (leg_after posed n)).after in
+    let best = best_in posed (leg_after posed n) in
+    ap (λ s. s.weights) (best_next posed (suc n) (leg_after posed n))
     ∙ either_keeps posed.origin.weights best next (is_better_plan (state_score posed next) (state_score posed best))
-    (best_keeps posed n) (ap (λ s. s.weights) (sym (state_next posed n)) ∙ state_keeps posed (suc n))
+    (best_keeps posed n) (ap (λ s. s.weights) (sym (state_next posed (suc n) (leg_after posed n))) ∙ state_keeps posed (suc n))
 
 module _ (m : Meaning) (makers : List Made) (domain : DomainView) (settings : Settings) (posed : Posed)
     (by : IsPosedBy m makers domain settings posed) where
   -- the text of the best state is that of the best plan
-  pub best_text_is : (plan : PlanView) (weights : List ℕ) (n : ℕ) → plan ≡ (best_after posed n).plan
+  pub best_text_is : (plan : PlanView) (weights : List ℕ) (n : ℕ) → plan ≡ (best_in posed (leg_after posed n)).plan
       → weights ≡ posed.origin.weights → best_text m domain plan weights ≡ text_of posed (best_lines_after posed n)
   unfolding plan_score
   best_text_is plan weights n is are_read =
-      let are : weights ≡ (best_after posed n).weights = are_read ∙ sym (best_keeps posed n) in
+      let are : weights ≡ (best_in posed (leg_after posed n)).weights = are_read ∙ sym (best_keeps posed n) in
       λ i. lines_text (by.classes i) (by.rules i)
       (best_lines (whole_score (by.means i) (by.rules i) (are i) (is i)) (is i)
       (all_matches (by.means i) (records_of (is i)) (by.rules i) (are i)))

@@ -10,5 +10,7 @@ pub mod Played
 pub mod Posing
 pub mod Printed
 pub mod Stepped
+pub mod Toured
 pub mod WayBack
 pub mod Whole
+pub mod Won

@@ -1,21 +1,13 @@
--- A step that one worker judges, batch by batch.
-use Rattle.std.specs.Prelude.{◌+◌, ℕ, List, Option}
+-- A step that a team judges, batch by batch.
+use Rattle.std.specs.Prelude.{◌≡◌, ◌+◌, ℕ, List, Option, length, map}
+use Rattle.std.specs.List.{range_with_len}
 use Rattle.acceptors.specs.History.{History}
-use Rattle.plan_settings.specs.declared.setting.Selector.{Selector}
-use Rattle.move_selectors.specs.Candidates.{Made}
-use Rattle.plan_rules.specs.Meaning.{Meaning}
 use Rattle.plan_search.specs.declared.found.Found.{Found}
-use Rattle.move_workers.specs.Judging.{WorkerView, candidate_in, found_by}
 use Rattle.search_core.specs.declared.event.Event.{Event}
 use Rattle.search_core.specs.declared.machine.Core.{Core}
 use Rattle.search_core.specs.Desk.{Terms, desk}
 use Rattle.search_core.specs.Keeps.{StandsFor}
 use Rattle.search_core.specs.OneThread.{InStep}
-
--- what a worker finds of a step's candidate under a number
-abbrev pub found_in : Meaning → ℕ → List Selector → List Made → ℕ → WorkerView → ℕ → Option Found
-found_in m seed selectors makers step worker number =
-    found_by m worker.director (candidate_in seed selectors makers step number worker)
 
 -- a core stands for events after which a step is in course and so many numbers are asked from the first one on, where one thread
 -- judged all numbers before that
@@ -26,3 +18,9 @@ pub record AsksAt (core : Core) (step : ℕ) (found : ℕ → Option Found) (fir
   pub since : ℕ
   pub stands : StandsFor terms core events
   pub inside : InStep (desk terms events) step history found (first + count) since first
+
+-- these are what is found of the numbers that are asked from the first one on, in order
+pub record HasAsked (core : Core) (step first : ℕ) (all : List (Option Found)) : Type 0 where
+  pub found : ℕ → Option Found
+  pub at : AsksAt core step found first (length all)
+  pub all_is : all ≡ map found (range_with_len first (length all))

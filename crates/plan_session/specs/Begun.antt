@@ -9,15 +9,16 @@ use Rattle.move_selectors.specs.Candidates.{Made}
 use Rattle.plan_json.specs.Domains.{DomainView}
 use Rattle.plan_reports.specs.Lines.{lines_text}
 use Rattle.score_director.specs.View.{DirectorView, at_rest}
+use Rattle.plan_search.specs.Leg.{state_of}
 use Rattle.plan_search.specs.Posed.{Posed}
+use Rattle.plan_search.specs.Quiet.{leg_after}
 use Rattle.plan_search.specs.RunLines.{best_lines, placing_lines}
 use Rattle.construction.specs.declared.next.Course.{Course}
 use Rattle.plan_reports.specs.declared.line.Line.TheVariants as line
 use Rattle.search_core.specs.declared.event.Event.TheVariants.{Cut, Start}
 use Rattle.search_core.specs.declared.machine.Core.{Core}
 use Rattle.search_core.specs.Keeps.{StandsFor}
-use Rattle.plan_session.specs.Course.{IsDecider, IsQuiet, state_after}
-use Rattle.plan_session.specs.declared.events.TheConstants.{BUFFER}
+use Rattle.plan_session.specs.Course.{IsDecider, IsQuiet}
 
 -- a problem is posed by a domain whose closures mean this and whose makers make these moves, and by settings
 pub record IsPosedBy (m : Meaning) (makers : List Made) (domain : DomainView) (settings : Settings) (posed : Posed)
@@ -35,15 +36,15 @@ pub record IsOrigin (plan : PlanView) (weights : List ℕ) (posed : Posed) : Typ
   pub plan_is : plan ≡ posed.origin.plan
   pub weights_are : weights ≡ posed.origin.weights
 
--- the core stands for the first cut and the start of a leg with this score
-abbrev pub BeginsLeg : Settings → PlanScore → Core → Type 0
-BeginsLeg settings score core =
-    StandsFor (record { settings = settings; buffer = BUFFER }) core (Start score ∷ Cut 0 ∷ [])
+-- a core that asks so many candidates at once stands for the first cut and the start of a leg with this score
+abbrev pub BeginsLeg : Settings → ℕ → PlanScore → Core → Type 0
+BeginsLeg settings buffer score core =
+    StandsFor (record { settings = settings; buffer = buffer }) core (Start score ∷ Cut 0 ∷ [])
 
 -- a director is at the placed plan, and a core before the first step
 pub record IsBegun (posed : Posed) (director : DirectorView) (core : Core) : Type 0 where
-  pub stands : director ≡ at_rest posed.rules posed.origin.weights (state_after posed 0).plan
-  pub decides : IsDecider posed 0 core
+  pub stands : director ≡ at_rest posed.rules posed.origin.weights (state_of (leg_after posed 0)).plan
+  pub decides : IsDecider posed 1 (leg_after posed 0) core
   pub quiet : IsQuiet core
 
 -- the text of a best plan under weights

@@ -7,14 +7,16 @@ use Rattle.problem_faults.specs.declared.fault.ProblemFault.{ProblemFault}
 use Rattle.problem_faults.specs.Words.{refusal_line}
 use Rattle.plan_json.specs.Domains.{DomainView}
 use Rattle.plan_json.specs.Problem.{ProblemView, problem_of}
+use Rattle.plan_search.specs.Posed.{Posed}
 use Rattle.plan_session.specs.Posed.{posed_in}
-use Rattle.plan_session.specs.declared.task.Wanted.{Wanted}
 use Rattle.plan_session.specs.declared.status.Status.{Status}
 use Rattle.plan_session.specs.declared.status.Status.TheVariants as status
 use Rattle.plan_gen.specs.Text.{problem_text}
 use Rattle.plan_words.specs.declared.command.Command.{Command}
+use Rattle.plan_words.specs.declared.command.Command.TheVariants.{Gen, Tour}
 use Rattle.plan_session.specs.Ending.{Says}
-use Rattle.plan_session.specs.Task.{Task, generated_by, text_wanted}
+use Rattle.plan_session.specs.Toured.{tour_text}
+use Rattle.plan_session.specs.Task.{Task, text_wanted}
 
 -- the line that says that the words are no command
 abbrev pub usage_line : List ℕ
@@ -29,25 +31,29 @@ abbrev pub generated_text : ℕ → ℕ → List ℕ
 generated_text number size = problem_text number size ++ codes "\n"
 
 -- a run as contracts see it: what its words ask for of a problem, the number and the size of the problem that they ask to
--- generate, the domains that problems may be of, the makers of moves of each, what the closures of their rules mean, and its
--- shelf before and after it
+-- generate, and of the one of whose run they ask for the sum, the domains that problems may be of, the makers of moves of each,
+-- what the closures of their rules mean, and its shelf before and after it
 pub record Run : Type 0 where
   pub asked : Option Task
   pub generates : Option (ℕ × ℕ)
+  pub tours : Option (ℕ × ℕ)
   pub domains : List DomainView
   pub makers : List (List Made)
   pub meaning : Meaning
   pub shelf : ShelfState
   pub shelf_after : ShelfState
 
--- what is due for a problem of a domain with these makers: what is wanted of it
-abbrev pub DueForProblem : Meaning → List Made → Wanted → DomainView → ProblemView → Status → List ℕ → Type 0
-DueForProblem meaning makers wanted domain problem status.Ok text =
-    text ≡ text_wanted wanted (posed_in meaning makers domain problem)
-DueForProblem meaning makers wanted domain problem _ text = ⊥
+-- a text of each posed problem
+abbrev pub TextOf : Type 0
+TextOf = Posed → List ℕ
 
--- the bytes are a problem, and the text is what is wanted of it
-pub record Answers (domains : List DomainView) (makers : List (List Made)) (meaning : Meaning) (wanted : Wanted)
+-- what is due for a problem of a domain with these makers: the text that is wanted of it
+abbrev pub DueForProblem : Meaning → List Made → TextOf → DomainView → ProblemView → Status → List ℕ → Type 0
+DueForProblem meaning makers wants domain problem status.Ok text = text ≡ wants (posed_in meaning makers domain problem)
+DueForProblem meaning makers wants domain problem _ text = ⊥
+
+-- the bytes are a problem, and the text is the one that is wanted of it
+pub record Answers (domains : List DomainView) (makers : List (List Made)) (meaning : Meaning) (wants : TextOf)
     (bytes text : List ℕ) : Type 0 where
   pub problem : ProblemView
   pub domain : DomainView
@@ -55,7 +61,7 @@ pub record Answers (domains : List DomainView) (makers : List (List Made)) (mean
   pub accepted : problem_of domains bytes ≡ Ok problem
   pub stands : slice_get domains problem.domain ≡ Some domain
   pub makes : slice_get makers problem.domain ≡ Some made
-  pub says : text ≡ text_wanted wanted (posed_in meaning made domain problem)
+  pub says : text ≡ wants (posed_in meaning made domain problem)
 
 -- the bytes are refused, and the line says what for
 pub record Refuses (domains : List DomainView) (bytes line : List ℕ) : Type 0 where
@@ -64,10 +70,15 @@ pub record Refuses (domains : List DomainView) (bytes line : List ℕ) : Type 0 
   pub says : line ≡ refusal_line fault
 
 -- what is due for the bytes of a problem
-abbrev pub DueForBytes : List DomainView → List (List Made) → Meaning → Wanted → List ℕ → Status → List ℕ → Type 0
-DueForBytes domains makers meaning wanted bytes status.Ok text = Answers domains makers meaning wanted bytes text
-DueForBytes domains makers meaning wanted bytes status.Problem text = Refuses domains bytes text
-DueForBytes domains makers meaning wanted bytes _ text = ⊥
+abbrev pub DueForBytes : List DomainView → List (List Made) → Meaning → TextOf → List ℕ → Status → List ℕ → Type 0
+DueForBytes domains makers meaning wants bytes status.Ok text = Answers domains makers meaning wants bytes text
+DueForBytes domains makers meaning wants bytes status.Problem text = Refuses domains bytes text
+DueForBytes domains makers meaning wants bytes _ text = ⊥
+
+-- what is due for the tour of a number and a size: the sum of a run of the generated problem, or what that is refused for
+abbrev pub DueForTour : List DomainView → List (List Made) → Meaning → ℕ → ℕ → Status → List ℕ → Type 0
+DueForTour domains makers meaning number size =
+    DueForBytes domains makers meaning (tour_text number size) (problem_text number size)
 
 -- 0: the problem was read, and the text is what is wanted of it
 pub record DueOk (run : Run) (text : List ℕ) : Type 0 where
@@ -75,7 +86,7 @@ pub record DueOk (run : Run) (text : List ℕ) : Type 0 where
   pub bytes : List ℕ
   pub asked : run.asked ≡ Some task
   pub held : Holds run.shelf task.name bytes
-  pub answers : Answers run.domains run.makers run.meaning task.wanted bytes text
+  pub answers : Answers run.domains run.makers run.meaning (text_wanted task.wanted) bytes text
 
 -- 0: a problem was generated
 pub record DueGenerated (run : Run) (text : List ℕ) : Type 0 where
@@ -84,10 +95,18 @@ pub record DueGenerated (run : Run) (text : List ℕ) : Type 0 where
   pub generates : run.generates ≡ Some (number, size)
   pub says : text ≡ generated_text number size
 
+-- a tour was asked for, and this is due for it
+pub record DueTour (run : Run) (status : Status) (text : List ℕ) : Type 0 where
+  pub number : ℕ
+  pub size : ℕ
+  pub tours : run.tours ≡ Some (number, size)
+  pub due : DueForTour run.domains run.makers run.meaning number size status text
+
 -- 2: the words are no command that is built
 pub record DueUsage (run : Run) (text : List ℕ) : Type 0 where
   pub unasked : run.asked ≡ None
   pub ungenerated : run.generates ≡ None
+  pub untoured : run.tours ≡ None
   pub says : text ≡ usage_line
 
 -- 3: the shelf failed at the problem's name, which isn't sound
@@ -107,17 +126,14 @@ pub record DueProblem (run : Run) (line : List ℕ) : Type 0 where
 
 -- the text that is due in a run under a status
 abbrev pub IsDue : Run → Status → List ℕ → Type 0
-IsDue run status.Ok text = DueOk run text ⊎ DueGenerated run text
+IsDue run status.Ok text = DueOk run text ⊎ DueGenerated run text ⊎ DueTour run status.Ok text
 IsDue run status.Usage text = DueUsage run text
 IsDue run status.Source text = DueSource run text
-IsDue run status.Problem text = DueProblem run text
+IsDue run status.Problem text = DueProblem run text ⊎ DueTour run status.Problem text
 IsDue run _ text = ⊥
 
--- what is due where a problem of this number and size is to be generated, or none
-abbrev pub DueMade : Option (ℕ × ℕ) → Status → List ℕ → Type 0
-DueMade (Some made) = Says status.Ok (generated_text made.0 made.1)
-DueMade None = Says status.Usage usage_line
-
--- what is due for a command that reads no problem: what it generates, or that it is none that is built
-abbrev pub DueUnread : Command → Status → List ℕ → Type 0
-DueUnread command = DueMade (generated_by command)
+-- what is due for a command that reads no problem: what it generates, a tour, or that it is none that is built
+abbrev pub DueUnread : List DomainView → List (List Made) → Meaning → Command → Status → List ℕ → Type 0
+DueUnread domains makers meaning (Gen number size) = Says status.Ok (generated_text number size)
+DueUnread domains makers meaning (Tour number size workers buffer) = DueForTour domains makers meaning number size
+DueUnread domains makers meaning _ = Says status.Usage usage_line

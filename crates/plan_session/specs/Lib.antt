@@ -4,9 +4,12 @@ pub mod Course
 pub mod Due
 pub mod Ending
 pub mod Explained
+pub mod Nowhere
 pub mod Posed
 pub mod Printing
+pub mod Searched
 pub mod Status
 pub mod Task
+pub mod Toured
 pub mod WayBack
 pub mod Writes

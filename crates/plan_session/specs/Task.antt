@@ -1,11 +1,12 @@
 -- What the program's words ask for.
 use Rattle.std.specs.Prelude.{ℕ, List, Option, Some, None, option_and_then}
-use Rattle.plan_words.specs.Command.{command}
+use Rattle.plan_words.specs.Command.{AreHands, command}
 use Rattle.plan_words.specs.declared.command.Command.{Command}
 use Rattle.plan_words.specs.declared.command.Command.TheVariants.{Solve, Replay, Score, Explain, Gen, Tour}
 use Rattle.plan_search.specs.Posed.{Posed}
 use Rattle.plan_search.specs.RunLines.{score_text, solve_text}
 use Rattle.plan_session.specs.Explained.{explain_text}
+use Rattle.plan_session.specs.Toured.{tour_text}
 use Rattle.plan_session.specs.declared.task.Wanted.{Wanted}
 use Rattle.plan_session.specs.declared.task.Wanted.TheVariants as want
 
@@ -20,7 +21,8 @@ task name wanted = record { name = name; wanted = wanted }
 
 -- the commands that are built so far: `solve` without a feed, `score` and `explain`
 abbrev pub task_of : Command → Option Task
-task_of (Solve name None workers buffer) = Some (task name want.Solution)
+task_of (Solve name None workers buffer) =
+    Some (task name (want.Solution (record { workers = workers; buffer = buffer })))
 task_of (Solve name (Some feed) workers buffer) = None
 task_of (Replay name feed journal) = None
 task_of (Score name) = Some (task name want.Score)
@@ -45,8 +47,29 @@ generated_by (Tour number size workers buffer) = None
 unfoldable pub generation_asked : List (List ℕ) → Option (ℕ × ℕ)
 generation_asked words = option_and_then generated_by (command words)
 
--- the text that is wanted of a posed problem
+-- the number and the size of the problem that a command generates to sum up a run of it
+abbrev pub toured_by : Command → Option (ℕ × ℕ)
+toured_by (Solve name feed workers buffer) = None
+toured_by (Replay name feed journal) = None
+toured_by (Score name) = None
+toured_by (Explain name) = None
+toured_by (Gen number size) = None
+toured_by (Tour number size workers buffer) = Some (number, size)
+
+-- the number and the size of the problem of whose run the words ask for the sum; none where they ask for something else
+unfoldable pub tour_asked : List (List ℕ) → Option (ℕ × ℕ)
+tour_asked words = option_and_then toured_by (command words)
+
+-- the text that is wanted of a posed problem: the same for all workers
 abbrev pub text_wanted : Wanted → Posed → List ℕ
-text_wanted want.Solution = solve_text
+text_wanted (want.Solution hands) = solve_text
 text_wanted want.Score = score_text
 text_wanted want.Explanation = explain_text
+text_wanted (want.Tour number size hands) = tour_text number size
+
+-- the numbers of workers, and of candidates at once, are in their range
+abbrev pub IsFit : Wanted → Type 0
+IsFit (want.Solution hands) = AreHands hands.workers hands.buffer
+IsFit want.Score = Unit {0}
+IsFit want.Explanation = Unit {0}
+IsFit (want.Tour number size hands) = AreHands hands.workers hands.buffer

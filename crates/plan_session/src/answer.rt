@@ -8,23 +8,28 @@ ghost use Rattle.plan_settings.specs.Settings.{IsInRange};
 ghost use Rattle.plan_session.specs.Explained.{explain_text};
 ghost use Rattle.plan_session.specs.Posed.{posed_in};
 ghost use Rattle.plan_session.specs.Printing.{Prints};
+ghost use Rattle.plan_session.specs.Toured.{tour_text};
 ghost use Rattle.problem_faults.specs.Words.{refusal_line};
 ghost use Rattle.plan_session.specs.Due.{DueForBytes, DueForProblem};
 ghost use Rattle.plan_session.specs.Ending.{Ended, Says};
+ghost use Rattle.plan_session.specs.Task.{IsFit, text_wanted};
+ghost use Rattle.plan_words.specs.Command.{AreHands};
 
 use crate::explaining::explain_text;
 use crate::fault::PrintFault;
 use crate::outside::say;
-use crate::searching::solve;
+use crate::searching::{Hands, solve};
 use crate::status::Status;
 use crate::task::Wanted;
 use crate::text::score_text;
+use crate::touring::tour_text;
 use plan_json::{Domain, Problem, read_problem};
 use plan_moves::MoveMaker as Maker;
-use plan_ports::Sink;
+use plan_ports::{Gate, Sink};
 use plan_rules::{Book, Judges, Kept, Rules};
 use problem_faults::{ProblemFault, write_refusal};
 use std::alloc::Global;
+use std::thread::Threads;
 
 /// The status of a text that was printed, or wasn't.
 fn status_of(printed: Result<(), PrintFault>) -> Status
@@ -90,9 +95,37 @@ fn respond_explanation<B: Book, K: Sink>(
     }
 }
 
-/// Writes what is wanted of a problem of this domain that was accepted.
-fn respond<B: Book, K: Sink>(
+/// Searches a generated problem, and writes the sum of the run.
+fn respond_tour<T: Threads + Sync, B: Book, K: Sink, G: Gate + Sync>(
+    rt: &T,
     alloc: Global,
+    gate: &G,
+    number: u32,
+    size: u32,
+    hands: Hands,
+    domain: &Domain<B>,
+    problem: Problem,
+    out: &mut K,
+) -> Status
+    requires judges { ⟦<Rules<B> as Judges>⟧.judges domain.now.rules problem.weights (sizes_of problem.plan) }
+    requires in_range { IsInRange problem.settings }
+    requires hands { AreHands hands.workers hands.buffer }
+    ensures ended { let makes = map (λ m. (⟦<dyn Maker as Maker>⟧ m.vtable).made m.value) domain.now.makers.items in
+        let posed = posed_in B.meaning makes (domain_view domain.now) (problem_view problem) in
+        Ended (Says Status.Ok (tour_text number size posed)) (K.state out.old) (K.state out.new) result }
+    ensures later { LaterSink (K.state out.old) (K.state out.new) }
+{
+    match tour_text(rt, alloc, gate, number, size, hands, domain, problem) {
+        Ok(text) => say(out, Status::Ok, &text),
+        Err(_) => Status::Memory,
+    }
+}
+
+/// Writes what is wanted of a problem of this domain that was accepted.
+fn respond<T: Threads + Sync, B: Book, K: Sink, G: Gate + Sync>(
+    rt: &T,
+    alloc: Global,
+    gate: &G,
     wanted: Wanted,
     domain: &Domain<B>,
     problem: Problem,
@@ -100,30 +133,42 @@ fn respond<B: Book, K: Sink>(
 ) -> Status
     requires judges { ⟦<Rules<B> as Judges>⟧.judges domain.now.rules problem.weights (sizes_of problem.plan) }
     requires in_range { IsInRange problem.settings }
+    requires fit { IsFit wanted }
     ensures ended { let makes = map (λ m. (⟦<dyn Maker as Maker>⟧ m.vtable).made m.value) domain.now.makers.items in
-        let is_due = DueForProblem B.meaning makes wanted (domain_view domain.now) (problem_view problem) in
+        let wants = text_wanted wanted in
+        let is_due = DueForProblem B.meaning makes wants (domain_view domain.now) (problem_view problem) in
         Ended is_due (K.state out.old) (K.state out.new) result }
     ensures later { LaterSink (K.state out.old) (K.state out.new) }
 {
     match wanted {
-        Wanted::Solution => status_of(solve(alloc, domain, problem, out)),
+        Wanted::Solution(hands) => {
+            status_of(solve(rt, alloc, gate, domain, problem, hands, out))
+        }
         Wanted::Score => respond_score(alloc, domain, problem, out),
         Wanted::Explanation => respond_explanation(alloc, domain, problem, out),
+        Wanted::Tour {
+            number,
+            size,
+            hands,
+        } => respond_tour(rt, alloc, gate, number, size, hands, domain, problem, out),
     }
 }
 
 /// Reads the bytes of a problem, and writes what is due: what is wanted of it, or the line that refuses it.
-pub fn answer<B: Book, K: Sink>(
+pub fn answer<T: Threads + Sync, B: Book, K: Sink, G: Gate + Sync>(
+    rt: &T,
     alloc: Global,
+    gate: &G,
     wanted: Wanted,
     bytes: &[u8],
     domains: &[Domain<B>],
     out: &mut K,
 ) -> Status
     requires keeps { All (λ domain. ⟦<Rules<B> as Kept>⟧.keeps domain.rules) domains.now }
+    requires fit { IsFit wanted }
     ensures ended { let makers = map (λ d. map (λ m. (⟦<dyn Maker as Maker>⟧ m.vtable).made m.value)
         d.makers.items) domains.now in
-        let is_due = DueForBytes (domain_views domains.now) makers B.meaning wanted bytes.now in
+        let is_due = DueForBytes (domain_views domains.now) makers B.meaning (text_wanted wanted) bytes.now in
         Ended is_due (K.state out.old) (K.state out.new) result }
     ensures later { LaterSink (K.state out.old) (K.state out.new) }
 {
@@ -132,7 +177,7 @@ pub fn answer<B: Book, K: Sink>(
             let Some(domain) = domains.get(problem.domain) else {
                 unreachable!();
             };
-            respond(alloc, wanted, domain, problem, out)
+            respond(rt, alloc, gate, wanted, domain, problem, out)
         }
         Err(ProblemFault::Memory) => Status::Memory,
         Err(fault) => refuse(alloc, &fault, out),

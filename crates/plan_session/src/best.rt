@@ -1,7 +1,8 @@
-ghost use Rattle.std.specs.Prelude.{◌≡◌, ◌∷◌, ◌++◌, [], IfOk, if◌then◌else◌};
+ghost use Rattle.std.specs.Prelude.{◌≡◌, ◌∷◌, ◌++◌, [], IfOk, OnOk, if◌then◌else◌};
 ghost use Rattle.plan_facts.specs.Plan.{PlanView};
 ghost use Rattle.plan_rules.specs.Range.{sizes_of};
 ghost use Rattle.plan_scores.specs.Order.{is_better_plan};
+ghost use Rattle.plan_session.specs.Toured.{one_more};
 ghost use Rattle.plan_session.specs.WayBack.{IsWayBack};
 
 use plan_facts::{Memory, Plan};
@@ -10,11 +11,12 @@ use plan_scores::PlanScore;
 use std::alloc::Global;
 
 /// The best plan of a leg so far: its score, and the edits that lead back to it from the plan as it is, the last one
-/// first. So nothing is copied when a plan is the best.
+/// first. So nothing is copied when a plan is the best. And how many steps of the leg had a winner.
 #[derive(Drop)]
 pub struct BestSoFar {
     pub score: PlanScore,
     pub back: Vec<Edit>,
+    pub wins: u32,
 }
 
 impl BestSoFar {
@@ -22,20 +24,25 @@ impl BestSoFar {
     pub fn begin(alloc: Global, score: PlanScore) -> BestSoFar
         ensures score { result.score ≡ score }
         ensures back { result.back.items ≡ [] }
+        ensures wins { result.wins ≡ 0 }
     {
         BestSoFar {
             score,
             back: Vec::new(alloc),
+            wins: 0,
         }
     }
 
-    /// The plan went on by what this edit takes back, to a plan of this score. Answers whether that is the best now.
+    /// The plan went on by what this edit takes back, to a plan of this score: one step more had a winner, counted up to the
+    /// greatest u32. Answers whether that is the best now.
     pub fn went(&mut self, score: PlanScore, back: Edit) -> Result<bool, Memory>
         ensures is_best { IfOk result (λ is_best. is_best ≡ is_better_plan score self.old.score) }
         ensures score { IfOk result (λ is_best. self.new.score ≡ (if is_best then score else self.old.score)) }
         ensures back { IfOk result (λ is_best.
             self.new.back.items ≡ (if is_best then [] else self.old.back.items ++ back ∷ [])) }
+        ensures wins { OnOk result (self.new.wins ≡ one_more self.old.wins) }
     {
+        self.wins = self.wins.saturating_add(1);
         if score > self.score {
             self.score = score;
             self.back.clear();

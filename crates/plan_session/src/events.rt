@@ -1,4 +1,4 @@
-ghost use Rattle.std.specs.Prelude.{IfOk, OnOk};
+ghost use Rattle.std.specs.Prelude.{◌≤◌, IfOk, OnOk};
 ghost use Rattle.plan_settings.specs.Settings.{IsInRange};
 ghost use Rattle.search_core.specs.declared.event.Event.TheVariants.{Cut, Start};
 ghost use Rattle.search_core.specs.Keeps.{HasNoFault};
@@ -11,9 +11,6 @@ use plan_settings::Settings;
 use search_core::{Core, Event, take};
 use std::alloc::Global;
 
-/// How many candidates a step asks at once.
-pub const BUFFER: u32 = 64;
-
 /// Cuts a boundary that is due.
 pub fn cut(core: &mut Core, boundary: u32) -> Result<(), Memory>
     requires { HasNoFault core.old (Cut boundary) }
@@ -23,12 +20,18 @@ pub fn cut(core: &mut Core, boundary: u32) -> Result<(), Memory>
     Ok(())
 }
 
-/// A core whose first leg starts with this score.
-pub fn start_core(alloc: Global, settings: &Settings, score: PlanScore) -> Result<Core, Memory>
-    requires { IsInRange settings.now }
-    ensures { IfOk result (BeginsLeg settings.now score) }
+/// A core that asks up to so many candidates at once, and whose first leg starts with this score.
+pub fn start_core(
+    alloc: Global,
+    settings: &Settings,
+    asked: u32,
+    score: PlanScore,
+) -> Result<Core, Memory>
+    requires in_range { IsInRange settings.now }
+    requires asked { (1 ≤ asked) × (asked ≤ 1024) }
+    ensures { IfOk result (BeginsLeg settings.now asked score) }
 {
-    let mut core = Core::new(alloc, settings, BUFFER)?;
+    let mut core = Core::new(alloc, settings, asked)?;
     cut(&mut core, 0)?;
     take(&mut core, Event::Start { score })?;
     Ok(core)

@@ -8,6 +8,7 @@ mod events;
 mod explaining;
 mod fault;
 mod generate;
+mod nowhere;
 mod outside;
 mod printing;
 mod report;
@@ -15,10 +16,9 @@ mod searching;
 mod status;
 mod steps;
 mod task;
-#[cfg(test)]
-mod tests;
 mod text;
 mod top;
+mod touring;
 
 pub use status::Status;
 pub use top::run;

@@ -27,6 +27,16 @@ impl<'a> Report<'a> {
         write_line(self.schema, self.rules, line, out)
     }
 
+    /// Appends some lines.
+    pub fn lines(&self, lines: &[Line], out: &mut Vec<u8>) -> Result<(), Memory>
+        ensures { Writes self.now result out.old.items out.new.items lines.now }
+    {
+        for line in lines {
+            self.line(line, out)?;
+        }
+        Ok(())
+    }
+
     /// Appends a line for each placing.
     pub fn placed(&self, alloc: Global, placed: &[Placed], out: &mut Vec<u8>) -> Result<(), Memory>
         ensures { Writes self.now result out.old.items out.new.items (map place_line placed.now) }

@@ -2,6 +2,7 @@ ghost use Rattle.std.specs.Prelude.{◌≡◌, ◌≤◌, ◌∷◌, ◌++◌, [
 ghost use Rattle.plan_rules.specs.Range.{sizes_of};
 ghost use Rattle.plan_rules.specs.Totals.{whole_score};
 ghost use Rattle.plan_settings.specs.Settings.{IsInRange};
+ghost use Rattle.plan_words.specs.Command.{AreHands};
 ghost use Rattle.plan_json.specs.Accepted.{problem_view};
 ghost use Rattle.plan_json.specs.Seen.{domain_view};
 ghost use Rattle.plan_reports.specs.declared.line.Line.TheVariants as line;
@@ -15,9 +16,10 @@ ghost use Rattle.score_director.specs.View.{at_rest, score_seen};
 ghost use Rattle.move_selectors.specs.Candidates.{Made};
 ghost use Rattle.plan_session.specs.Begun.{BeginsLeg, IsBegun, IsOrigin, IsPosedBy, best_text, opening_of, run_line_of};
 ghost use Rattle.plan_ports.specs.Outside.{SinkState};
-ghost use Rattle.plan_session.specs.Course.{HasPrinted, best_after};
+ghost use Rattle.plan_session.specs.Course.{HasPrinted};
 ghost use Rattle.plan_session.specs.Posed.{posed_in};
 ghost use Rattle.plan_session.specs.Printing.{Prints};
+ghost use Rattle.plan_session.specs.Searched.{HasSearched};
 ghost use Rattle.plan_session.specs.Writes.{Writes};
 
 use crate::best::{BestSoFar, lead_back};
@@ -27,11 +29,11 @@ use crate::printing::{print, print_line};
 use crate::report::Report;
 use crate::steps::do_steps;
 use construction::{Course, order_alone, place_alone};
-use move_workers::{Kit, Worker, director_alone};
+use move_workers::{Kit, Team, director_alone};
 use plan_facts::{List, Memory, Plan};
 use plan_json::{Domain, Problem};
 use plan_moves::MoveMaker as Maker;
-use plan_ports::Sink;
+use plan_ports::{Gate, Sink};
 use plan_recalc::{Totals, totals_alone};
 use plan_reports::Line;
 use plan_rules::{Book, Judges, Rules};
@@ -40,6 +42,36 @@ use plan_settings::{Construction, Settings};
 use score_director::Director;
 use search_core::Core;
 use std::alloc::Global;
+use std::thread::Threads;
+
+/// By how many workers a problem is solved, 1 to 16, and how many candidates they judge at once, 1 to 1,024.
+#[derive(Clone, Copy, Debug, PartialEq, Eq)]
+pub struct Hands {
+    pub workers: u32,
+    pub buffer: u32,
+}
+
+impl Hands {
+    ghost use Rattle.std.specs.Prelude.{◌≤◌};
+    ghost use Rattle.plan_words.specs.Command.{AreHands};
+
+    /// How many candidates are asked at once. One worker alone is asked one by one: what a step doesn't come to would be
+    /// judged in vain. The text is the same for all numbers.
+    pub fn asked(&self) -> u32
+        requires { AreHands self.now.workers self.now.buffer }
+        ensures { (1 ≤ result) × (result ≤ 1024) }
+    {
+        if self.workers == 1 { 1 } else { self.buffer }
+    }
+}
+
+/// What a search came to: its best plan and the score of that, and how many steps had a winner.
+#[derive(Drop)]
+pub struct Searched {
+    pub best: Plan,
+    pub score: PlanScore,
+    pub wins: u32,
+}
 
 /// Whether harder entities are placed first.
 fn is_decreasing(construction: Construction) -> bool
@@ -138,29 +170,32 @@ fn place_and_start<B: Book>(
     alloc: Global,
     domain: &Domain<B>,
     settings: &Settings,
+    asked: u32,
     plan: Plan,
     weights: List<u32>,
 ) -> Result<(Director<B>, Course, Core), Memory>
     requires judges { ⟦<Rules<B> as Judges>⟧.judges domain.now.rules weights (sizes_of plan) }
     requires in_range { IsInRange settings.now }
+    requires asked { (1 ≤ asked) × (asked ≤ 1024) }
     ensures rest { IfOk result (λ done. done.0 ≡ at_rest domain.now.rules.defs weights done.0.plan) }
     ensures course { let score = whole_score B.meaning domain.now.rules.defs weights in
         let todo = todo_by B.meaning domain.now.rules.harder (is_decreasing settings.now.construction) plan in
         IfOk result (λ done. course_of done.1 done.0.plan ≡ placing_of score plan todo) }
-    ensures core { IfOk result (λ done. BeginsLeg settings.now (score_seen B.meaning done.0) done.2) }
+    ensures core { IfOk result (λ done. BeginsLeg settings.now asked (score_seen B.meaning done.0) done.2) }
     ensures sizes { IfOk result (λ done. sizes_of done.0.plan ≡ sizes_of plan) }
 {
     let (director, course) = place_plan(alloc, domain, settings, plan, weights)?;
-    let core = start_core(alloc, settings, director.score())?;
+    let core = start_core(alloc, settings, asked, director.score())?;
     Ok((director, course, core))
 }
 
 /// Places the plan and prints the lines of the run up to its start score. Gives the director of the placed plan, and the core
 /// before its first step.
-fn begin<B: Book, K: Sink>(
+pub fn begin<B: Book, K: Sink>(
     alloc: Global,
     domain: &Domain<B>,
     settings: &Settings,
+    asked: u32,
     plan: Plan,
     weights: List<u32>,
     buffer: &mut Vec<u8>,
@@ -168,6 +203,7 @@ fn begin<B: Book, K: Sink>(
 ) -> Result<(Director<B>, Core), PrintFault>
     requires judges { ⟦<Rules<B> as Judges>⟧.judges domain.now.rules weights (sizes_of plan) }
     requires in_range { IsInRange settings.now }
+    requires asked { (1 ≤ asked) × (asked ≤ 1024) }
     requires empty { buffer.old.items ≡ [] }
     ensures emptied { OnOk result (buffer.new.items ≡ []) }
     ensures prints { (makers : List Made) (posed : Posed)
@@ -179,7 +215,7 @@ fn begin<B: Book, K: Sink>(
     ensures sizes { IfOk result (λ begun. sizes_of begun.0.plan ≡ sizes_of plan) }
 {
     print_run(alloc, domain, buffer, out)?;
-    let (director, course, core) = place_and_start(alloc, domain, settings, plan, weights)?;
+    let (director, course, core) = place_and_start(alloc, domain, settings, asked, plan, weights)?;
     print_opening(alloc, domain, &course, director.score(), buffer, out)?;
     Ok((director, core))
 }
@@ -225,18 +261,24 @@ fn print_best<B: Book, K: Sink>(
     print(buffer, out)
 }
 
-/// Does all steps from a placed plan, and prints their lines. Gives the best plan.
-fn search<B: Book, K: Sink>(
+/// Does all steps from a placed plan by a team of so many workers, and prints their lines.
+pub fn search<T: Threads + Sync, B: Book, K: Sink, G: Gate + Sync>(
+    rt: &T,
     alloc: Global,
+    gate: &G,
     domain: &Domain<B>,
     settings: &Settings,
+    workers: u32,
     director: Director<B>,
+    weights: &[u32],
     core: Core,
     buffer: &mut Vec<u8>,
     out: &mut K,
-) -> Result<Plan, PrintFault>
+) -> Result<Searched, PrintFault>
     requires judges { ⟦<Rules<B> as Judges>⟧.judges domain.now.rules director.weights (sizes_of director.plan) }
     requires in_range { IsInRange settings.now }
+    requires workers { (1 ≤ workers) × (workers ≤ 16) }
+    requires weights { director.weights ≡ weights.now }
     requires begun { let makes = map (λ m. (⟦<dyn Maker as Maker>⟧ m.vtable).made m.value) domain.now.makers.items in
         (posed : Posed) × IsPosedBy B.meaning makes (domain_view domain.now) settings.now posed
         × IsBegun posed director core }
@@ -247,11 +289,11 @@ fn search<B: Book, K: Sink>(
         → IsPosedBy B.meaning makes (domain_view domain.now) settings.now posed
         → IsBegun posed director core → HasPrinted posed 0 start (K.state out.old)
         → Prints result (text_of posed (lines_after posed settings.now.steps)) start (K.state out.new) }
-    ensures best { let makes = map (λ m. (⟦<dyn Maker as Maker>⟧ m.vtable).made m.value) domain.now.makers.items in
-        IfOk result (λ plan. (posed : Posed)
+    ensures searched { let makes = map (λ m. (⟦<dyn Maker as Maker>⟧ m.vtable).made m.value) domain.now.makers.items in
+        IfOk result (λ searched. (posed : Posed)
         → IsPosedBy B.meaning makes (domain_view domain.now) settings.now posed
-        → IsBegun posed director core → plan ≡ (best_after posed settings.now.steps).plan) }
-    ensures sizes { IfOk result (λ plan. sizes_of plan ≡ sizes_of director.plan) }
+        → IsBegun posed director core → HasSearched posed settings.now.steps searched) }
+    ensures sizes { IfOk result (λ searched. sizes_of searched.best ≡ sizes_of director.plan) }
 {
     let report = Report {
         schema: &domain.schema,
@@ -265,34 +307,46 @@ fn search<B: Book, K: Sink>(
         seed: settings.seed,
     };
     let score = director.score();
-    let mut worker = Worker::new(alloc, &kit, director)?;
+    let mut team = Team::new(alloc, &kit, director, weights, workers)?;
     let mut core = core;
     let mut best = BestSoFar::begin(alloc, score);
     do_steps(
+        rt,
         &report,
         &kit,
+        gate,
         &mut core,
-        &mut worker,
+        &mut team,
         &mut best,
         settings.steps,
         buffer,
         out,
     )?;
-    let mut plan = worker.into_plan();
-    lead_back(best.back, &mut plan);
-    Ok(plan)
+    let BestSoFar { score, back, wins } = best;
+    let mut plan = team.into_plan();
+    lead_back(back, &mut plan);
+    Ok(Searched {
+        best: plan,
+        score,
+        wins,
+    })
 }
 
 /// Prints what `solve` prints of a problem, line by line: the placing of its plan, each step of the search, and the best
-/// plan. Where memory or the sink fails a front of it was printed.
-pub fn solve<B: Book, K: Sink>(
+/// plan. Where memory or the sink fails a front of it was printed. So many workers judge up to so many candidates at once;
+/// the text is the same for all numbers of them.
+pub fn solve<T: Threads + Sync, B: Book, K: Sink, G: Gate + Sync>(
+    rt: &T,
     alloc: Global,
+    gate: &G,
     domain: &Domain<B>,
     problem: Problem,
+    hands: Hands,
     out: &mut K,
 ) -> Result<(), PrintFault>
     requires judges { ⟦<Rules<B> as Judges>⟧.judges domain.now.rules problem.weights (sizes_of problem.plan) }
     requires in_range { IsInRange problem.settings }
+    requires hands { AreHands hands.workers hands.buffer }
     ensures { let makes = map (λ m. (⟦<dyn Maker as Maker>⟧ m.vtable).made m.value) domain.now.makers.items in
         let posed = posed_in B.meaning makes (domain_view domain.now) (problem_view problem) in
         Prints result (solve_text posed) (K.state out.old) (K.state out.new) }
@@ -305,7 +359,35 @@ pub fn solve<B: Book, K: Sink>(
     } = problem;
     let under = weights.copy(alloc)?;
     let mut buffer = Vec::new(alloc);
-    let (director, core) = begin(alloc, domain, &settings, plan, weights, &mut buffer, out)?;
-    let best = search(alloc, domain, &settings, director, core, &mut buffer, out)?;
-    print_best(alloc, domain, &best, under.as_slice(), &mut buffer, out)
+    let (director, core) = begin(
+        alloc,
+        domain,
+        &settings,
+        hands.asked(),
+        plan,
+        weights,
+        &mut buffer,
+        out,
+    )?;
+    let searched = search(
+        rt,
+        alloc,
+        gate,
+        domain,
+        &settings,
+        hands.workers,
+        director,
+        under.as_slice(),
+        core,
+        &mut buffer,
+        out,
+    )?;
+    print_best(
+        alloc,
+        domain,
+        &searched.best,
+        under.as_slice(),
+        &mut buffer,
+        out,
+    )
 }

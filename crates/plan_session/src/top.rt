@@ -3,7 +3,7 @@ ghost use Rattle.plan_ports.specs.Outside.{LaterShelf, LaterSink};
 ghost use Rattle.plan_json.specs.Seen.{domain_views};
 ghost use Rattle.plan_session.specs.Due.{IsDue, Run};
 ghost use Rattle.plan_session.specs.Ending.{Ended};
-ghost use Rattle.plan_session.specs.Task.{generation_asked, task, task_asked};
+ghost use Rattle.plan_session.specs.Task.{IsFit, generation_asked, task, task_asked, tour_asked};
 
 use crate::answer::answer;
 use crate::generate::answer_unread;
@@ -21,8 +21,10 @@ use std::sync::Wait;
 use std::thread::Threads;
 
 /// Reads the file of a name and writes what is due for it.
-fn perform<B: Book, S: Shelf, K: Sink>(
+fn perform<T: Threads + Sync, B: Book, S: Shelf, K: Sink, G: Gate + Sync>(
+    rt: &T,
     alloc: Global,
+    gate: &G,
     name: &[u8],
     wanted: Wanted,
     shelf: &mut S,
@@ -30,9 +32,11 @@ fn perform<B: Book, S: Shelf, K: Sink>(
     domains: &[Domain<B>],
 ) -> Status
     requires keeps { All (λ domain. ⟦<Rules<B> as Kept>⟧.keeps domain.rules) domains.now }
+    requires fit { IsFit wanted }
     ensures ended { let run : Run = record {
       asked = Some (task name.now wanted);
       generates = None;
+      tours = None;
       domains = domain_views domains.now;
       makers = map (λ d. map (λ m. (⟦<dyn Maker as Maker>⟧ m.vtable).made m.value) d.makers.items) domains.now;
       meaning = B.meaning;
@@ -45,7 +49,7 @@ fn perform<B: Book, S: Shelf, K: Sink>(
     ensures sink { LaterSink (K.state out.old) (K.state out.new) }
 {
     match fetch(alloc, shelf, name) {
-        Ok(bytes) => answer(alloc, wanted, &bytes, domains, out),
+        Ok(bytes) => answer(rt, alloc, gate, wanted, &bytes, domains, out),
         Err(ReadFault::Memory) => Status::Memory,
         Err(ReadFault::Failed) => say(out, Status::Source, b"refused source\n"),
         Err(ReadFault::TooLong) => say(out, Status::Problem, b"refused problem too_long\n"),
@@ -55,14 +59,15 @@ fn perform<B: Book, S: Shelf, K: Sink>(
 /// Carries out what the words ask for: a problem is read from the shelf, and what is due for it is written to the
 /// sink. `solve NAME` prints the search of its plan, step by step, with the best plan and its score; `score NAME` the
 /// score of its plan as read; `explain NAME` that with each match, and what each fact adds. `gen NUMBER SIZE` prints a
-/// generated problem, and reads nothing. Other commands aren't built yet.
+/// generated problem, and `tour NUMBER SIZE` the sum of the run that `solve` prints of it; they read nothing. Other commands
+/// aren't built yet.
 pub fn run<T: Threads + Wait + Sync, B: Book, S: Shelf, K: Sink + Send, G: Gate + Sync>(
-    _rt: &T,
+    rt: &T,
     alloc: Global,
     words: &[Text],
     shelf: &mut S,
     out: &mut K,
-    _gate: &G,
+    gate: &G,
     domains: &[Domain<B>],
 ) -> Status
 where
@@ -73,6 +78,7 @@ where
     ensures ended { let run : Run = record {
       asked = task_asked words.now;
       generates = generation_asked words.now;
+      tours = tour_asked words.now;
       domains = domain_views domains.now;
       makers = map (λ d. map (λ m. (⟦<dyn Maker as Maker>⟧ m.vtable).made m.value) d.makers.items) domains.now;
       meaning = B.meaning;
@@ -91,8 +97,8 @@ where
 {
     match read_words(alloc, words) {
         Ok(command) => match task_of(&command) {
-            Some((name, wanted)) => perform(alloc, name, wanted, shelf, out, domains),
-            None => answer_unread(alloc, &command, out),
+            Some((name, wanted)) => perform(rt, alloc, gate, name, wanted, shelf, out, domains),
+            None => answer_unread(rt, alloc, gate, &command, domains, out),
         },
         Err(WordFault::Memory) => Status::Memory,
         Err(WordFault::Usage) => say(out, Status::Usage, b"refused usage\n"),

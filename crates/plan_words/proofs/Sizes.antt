@@ -1,9 +1,9 @@
--- The sizes of generated problems are in their range.
+-- The sizes of generated problems, and how many workers judge how many candidates at once, are in their range.
 use Rattle.std.proofs.Common.{◌≡◌, ◌≤◌, ◌-◌, ◌^◌, ◌&&◌, ℕ, Bool, true, false, nat_le, if◌then◌else◌, List, [], ◌∷◌, Option, Some, None, is_none, option_to_list, refl, sym, subst, arith}
-use Rattle.plan_words.specs.Command.{IsSized, buffer_of, command, command_of, explain, gen, given, has_no_option, number_and_size, only_name, replay, score, solve, tour, workers_of}
+use Rattle.plan_words.specs.Command.{AreHands, IsSized, buffer_of, command, command_of, explain, gen, given, has_no_option, number_and_size, only_name, replay, score, solve, tour, workers_of}
 use Rattle.std.specs.Str.Parse.{digits_value}
 use Rattle.plan_words.specs.Items.{Word}
-use Rattle.plan_words.specs.Values.{are_names, is_number, number_in}
+use Rattle.plan_words.specs.Values.{are_names, is_number, number_in, number_or}
 use Rattle.plan_words.specs.Verb.{verb}
 use Rattle.plan_words.specs.Sorted.{Sorted, one, sorted_words, two}
 use Rattle.plan_words.specs.declared.verb.Verb.{Verb}
@@ -47,11 +47,24 @@ pair_in_range s =
     each_given _ (number_in 0 (2 ^ 32 - 1) words.0) _ (λ number _.
     each_given _ (number_in 1 10000 words.1) _ (λ size is. each_of (λ (n : ℕ). (1 ≤ n) × (n ≤ 10000)) (number_in 1 10000 words.1) size is (in_range 1 10000 words.1))))
 
+-- a number that may be absent is in its range, where the usual one is
+or_in_range : (usual low high : ℕ) → low ≤ usual → usual ≤ high → (word : Option Word) → Each (λ (n : ℕ). (low ≤ n) × (n ≤ high)) (number_or usual low high word)
+or_in_range usual low high least most None = (least, most)
+or_in_range usual low high least most (Some word) = in_range low high word
+
+-- the workers and the buffer of a line
+hands_in_range : (s : Sorted) (workers buffer : ℕ) → workers_of s ≡ Some workers → buffer_of s ≡ Some buffer → AreHands workers buffer
+hands_in_range s workers buffer w b =
+    let few = each_of (λ (n : ℕ). (1 ≤ n) × (n ≤ 16)) (workers_of s) workers w (or_in_range 1 1 16 (omega arith) (omega arith) s.workers) in
+    let small = each_of (λ (n : ℕ). (1 ≤ n) × (n ≤ 1024)) (buffer_of s) buffer b (or_in_range 64 1 1024 (omega arith) (omega arith) s.buffer) in
+    (few.0, few.1, small.0, small.1)
+
 -- each command by its word
 sized_by : (v : Verb) (s : Sorted) → Each IsSized (command_of v s)
 sized_by verbs.Solve s =
-    each_given IsSized (one s.positional) _ (λ name _. each_given IsSized (workers_of s) _ (λ workers _. each_given IsSized (buffer_of s) _ (λ buffer _.
-    each_if IsSized (are_names (name ∷ option_to_list s.feed) && is_none s.journal) (Solve name s.feed workers buffer) tt)))
+    each_given IsSized (one s.positional) _ (λ name _. each_given IsSized (workers_of s) _ (λ workers w. each_given IsSized (buffer_of s) _ (λ buffer b.
+    each_if IsSized (are_names (name ∷ option_to_list s.feed) && is_none s.journal) (Solve name s.feed workers buffer)
+    (hands_in_range s workers buffer w b))))
 sized_by verbs.Replay s =
     each_given IsSized (one s.positional) _ (λ name _. each_given IsSized s.feed _ (λ feed _. each_given IsSized s.journal _ (λ journal _.
     each_if IsSized (are_names (name ∷ feed ∷ journal ∷ []) && (is_none s.workers && is_none s.buffer)) (Replay name feed journal) tt)))
@@ -62,11 +75,12 @@ sized_by verbs.Gen s =
     each_if IsSized (has_no_option s) (Gen problem.0 problem.1)
     (each_of (λ (problem : ℕ × ℕ). (1 ≤ problem.1) × (problem.1 ≤ 10000)) (number_and_size s) problem is (pair_in_range s)))
 sized_by verbs.Tour s =
-    each_given IsSized (number_and_size s) _ (λ problem is. each_given IsSized (workers_of s) _ (λ workers _. each_given IsSized (buffer_of s) _ (λ buffer _.
+    each_given IsSized (number_and_size s) _ (λ problem is. each_given IsSized (workers_of s) _ (λ workers w. each_given IsSized (buffer_of s) _ (λ buffer b.
     each_if IsSized (is_none s.feed && is_none s.journal) (Tour problem.0 problem.1 workers buffer)
-    (each_of (λ (problem : ℕ × ℕ). (1 ≤ problem.1) × (problem.1 ≤ 10000)) (number_and_size s) problem is (pair_in_range s)))))
+    (let size = each_of (λ (problem : ℕ × ℕ). (1 ≤ problem.1) × (problem.1 ≤ 10000)) (number_and_size s) problem is (pair_in_range s) in
+    (size.0, size.1, hands_in_range s workers buffer w b)))))
 
--- the size of a generated problem that is read is in its range
+-- the sizes of a command that is read are in their range
 each_sized : (words : List Word) → Each IsSized (command words)
 each_sized [] = tt
 each_sized (first ∷ others) = each_given IsSized (verb first) _ (λ v _. each_given IsSized (sorted_words others) _ (λ s _. sized_by v s))

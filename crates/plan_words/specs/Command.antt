@@ -92,11 +92,15 @@ abbrev pub command : List Word → Option Command
 command [] = None
 command (first ∷ others) = given (verb first) (λ v. given (sorted_words others) (command_of v))
 
--- the size of a generated problem is from 1 to 10,000
+-- so many workers, and candidates at once, are in their range
+abbrev pub AreHands : ℕ → ℕ → Type 0
+AreHands workers buffer = (1 ≤ workers) × (workers ≤ 16) × (1 ≤ buffer) × (buffer ≤ 1024)
+
+-- the size of a generated problem is from 1 to 10,000, and workers and buffers are in their range
 abbrev pub IsSized : Command → Type 0
-IsSized (Solve name feed workers buffer) = Unit {0}
+IsSized (Solve name feed workers buffer) = AreHands workers buffer
 IsSized (Replay name feed journal) = Unit {0}
 IsSized (Score name) = Unit {0}
 IsSized (Explain name) = Unit {0}
 IsSized (Gen number size) = (1 ≤ size) × (size ≤ 10000)
-IsSized (Tour number size workers buffer) = (1 ≤ size) × (size ≤ 10000)
+IsSized (Tour number size workers buffer) = (1 ≤ size) × (size ≤ 10000) × AreHands workers buffer

@@ -96,8 +96,40 @@ match -1hard/0medium/0soft lesson#1 lesson#2
 end
 "#;
 
+/// A step that ends with the first candidate that is accepted.
+pub(super) const FIRST_TAKEN: &str =
+    r#"{"format":1,"domain":"roster","settings":{"steps":1,"selectors":["change"]},"facts":{<N>}}"#;
+
+/// A step that sees two candidates, which are the same edit.
+pub(super) const FIRST_OF_TWO: &str =
+    r#"{"format":1,"domain":"roster","settings":{"steps":1,"selectors":["change"],"accepted_limit":2,"select_limit":2},"facts":{<N>}}"#;
+
+/// Words that solve by so many workers, which judge so many candidates at once.
+pub(super) const HANDS: &[&str] = &[
+    "solve p --workers 1 --buffer 1",
+    "solve p --workers 1 --buffer 4",
+    "solve p --workers 2 --buffer 1",
+    "solve p --workers 2 --buffer 4",
+    "solve p --workers 3 --buffer 2",
+    "solve p --workers 4 --buffer 8",
+    "solve p --workers 5 --buffer 16",
+    "solve p --workers 6 --buffer 32",
+    "solve p --workers 7 --buffer 1",
+    "solve p --workers 7 --buffer 4",
+    "solve p --workers 8 --buffer 64",
+    "solve p --workers 9 --buffer 128",
+    "solve p --workers 10 --buffer 256",
+    "solve p --workers 11 --buffer 512",
+    "solve p --workers 12",
+    "solve p --workers 13 --buffer 3",
+    "solve p --workers 14 --buffer 1023",
+    "solve p --workers 15 --buffer 1024",
+    "solve p --workers 16 --buffer 1",
+    "solve p --workers 16 --buffer 1024",
+];
+
 /// The step's first candidate moves the second shift to the nurse, who has the first.
-const MOVED: &str = r#"run roster
+pub(super) const MOVED: &str = r#"run roster
 leg 0
 start -1hard/0medium/0soft
 step 1 candidate 0 0hard/0medium/-1soft best
@@ -145,13 +177,13 @@ end
     },
     Case {
         words: "solve p",
-        problem: r#"{"format":1,"domain":"roster","settings":{"steps":1,"selectors":["change"]},"facts":{<N>}}"#,
+        problem: FIRST_TAKEN,
         text: MOVED,
         status: Status::Ok,
     },
     Case {
         words: "solve p",
-        problem: r#"{"format":1,"domain":"roster","settings":{"steps":1,"selectors":["change"],"accepted_limit":2,"select_limit":2},"facts":{<N>}}"#,
+        problem: FIRST_OF_TWO,
         text: MOVED,
         status: Status::Ok,
     },

@@ -4,6 +4,7 @@ use Rattle.problem_faults.specs.Words.{refusal_line}
 use Rattle.plan_json.specs.Accepted.{IsAccepted, problem_view}
 use Rattle.plan_json.specs.Seen.{domain_view}
 use Rattle.plan_session.specs.declared.status.Status.TheVariants as status
+use Rattle.plan_session.specs.Task.{text_wanted}
 use Rattle.plan_session.proofs.DueLaws.{due_for_bytes, found_fault, slice_at, some_and_at, stands_mapped}
 use Rattle.plan_session.proofs.EndingLaws.{Ended-weaker, ended_saying}
 use Rattle.plan_session.proofs.answer.answer.Goals as goal
@@ -25,7 +26,7 @@ pub returns-in-Some-clause-ended : goal.returns-in-Some-clause-ended
 returns-in-Some-clause-ended g c =
     let at = c.in-Some.ensures.lookup in
     Ended-weaker _ _ _ _ _
-    (due_for_bytes _ _ g.B.Book.meaning c.args.wanted c.args.bytes.now (problem_view c.in-Ok.problem) _ _ c.in-Ok.ensures.problem
+    (due_for_bytes _ _ g.B.Book.meaning (text_wanted c.args.wanted) c.args.bytes.now (problem_view c.in-Ok.problem) _ _ c.in-Ok.ensures.problem
     (stands_mapped domain_view c.args.domains.now c.in-Ok.problem.domain c.in-Some.domain.now at.3.0 at.1)
     (stands_mapped _ c.args.domains.now c.in-Ok.problem.domain c.in-Some.domain.now at.3.0 at.1))
     c.respond.ensures.ended

@@ -1,24 +1,20 @@
-use Rattle.std.proofs.Common.{◌∙◌, arith}
-use Rattle.plan_session.specs.Asking.{found_in}
-use Rattle.plan_session.proofs.Asking.{asks-judges, judged-all, judged-next}
+use Rattle.std.proofs.Common.{◌≡◌, ◌∙◌, List, Option, length, ap, arith}
+use Rattle.std.proofs.lemmas.List.FromFn.{length-map-range_with_len}
+use Rattle.plan_search.specs.declared.found.Found.{Found}
+use Rattle.plan_session.proofs.Asking.{all-asked, all-told}
 use Rattle.plan_session.proofs.deciding.judge_batch.Goals as goal
 
-pub judge_one-requires-clause-at : goal.judge_one-requires-clause-at
-judge_one-requires-clause-at g c κs within =
-    asks-judges c.args.core.now c.numbers.core c.args.step _ c.args.first c.args.count c.numbers.number c.requires.at
-    c.numbers.auto.number (c.numbers.invariant.stands c.requires.at)
+pub record_all-requires-clause-asked : goal.record_all-requires-clause-asked
+record_all-requires-clause-asked g c =
+    all-asked c.args.core.now c.args.step _ c.args.first c.args.count c.in_ok-all.all.items c.in_ok-all.ensures.found c.requires.at
 
-pub numbers-preserved : goal.numbers-preserved
-numbers-preserved g c =
-    let kit = c.args.kit.now in
-    record {
-      worker = c.in_ok-judge_one.ensures.same ∙ c.numbers.invariant.worker;
-      stands = judged-next (found_in g.B.Book.meaning kit.seed kit.selectors.now _ c.args.step) c.args.worker.now c.numbers.worker
-          c.args.core.now c.numbers.core c.judge_one.new.core c.args.step c.args.first c.args.count c.numbers.number
-          c.numbers.invariant.worker c.numbers.auto.number c.numbers.invariant.stands c.in_ok-judge_one.ensures.stands;
-    }
+pub record_all-requires-clause-fits : goal.record_all-requires-clause-fits
+record_all-requires-clause-fits g c =
+    let len : length c.in_ok-all.all.items ≡ c.args.count =
+    ap (λ (l : List (Option Found)). length l) c.in_ok-all.ensures.found ∙ length-map-range_with_len _ c.args.first c.args.count in
+    omega (arith, len, c.requires.fits)
 
 pub returns-clause-stands : goal.returns-clause-stands
 returns-clause-stands g c =
-    judged-all c.args.core.now c.numbers.core c.args.step _ c.args.first c.args.count c.numbers.number (omega arith)
-    c.numbers.invariant.stands
+    all-told c.args.core.now c.record_all.new.core c.args.step _ c.args.first c.args.count c.in_ok-all.all.items c.in_ok-all.ensures.found
+    c.in_ok-record_all.ensures.stands

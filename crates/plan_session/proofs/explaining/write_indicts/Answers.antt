@@ -1,6 +1,6 @@
 use Rattle.std.proofs.Common.{◌≡◌, ◌∙◌, ◌++◌, length, map, sym, ap, arith}
 use Rattle.plan_reports.specs.Lines.{lines_text}
-use Rattle.indictments.specs.Indicts.{facts_in, named}
+use Rattle.indictments.specs.Indicts.{named}
 use Rattle.plan_session.proofs.Explained.{facts_below, facts_more, lines_among}
 use Rattle.plan_session.proofs.Grown.{written_more}
 use Rattle.plan_session.proofs.explaining.write_indicts.Goals as goal

@@ -54,5 +54,5 @@ returns-clause-prints g c = λ makers posed by origin.
 pub returns-clause-begun : goal.returns-clause-begun
 returns-clause-begun g c = λ makers posed by origin.
     let done = c.in_ok-director in
-    begins g.B.Book.meaning makers (domain_view c.args.domain.now) c.args.settings.now posed by c.args.plan c.args.weights done.course done.director done.core
+    begins g.B.Book.meaning makers (domain_view c.args.domain.now) c.args.settings.now posed by c.args.plan c.args.weights c.args.asked done.course done.director done.core
     (score_seen g.B.Book.meaning done.director) origin done.ensures.course done.ensures.rest refl done.ensures.core

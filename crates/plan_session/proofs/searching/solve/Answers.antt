@@ -1,5 +1,6 @@
 use Rattle.std.proofs.Common.{◌≡◌, ◌∙◌, ◌++◌, ℕ, List, map, refl, sym, ap, subst, arith}
 use Rattle.plan_rules.specs.Range.{MayJudge, sizes_of}
+use Rattle.score_director.specs.View.{DirectorView}
 use Rattle.plan_json.specs.Accepted.{problem_view}
 use Rattle.plan_json.specs.Seen.{domain_view}
 use Rattle.plan_search.specs.Quiet.{lines_after}
@@ -43,6 +44,15 @@ search-requires-clause-judges g c κs within =
           (subst (λ sizes. MayJudge rules.defs rules.caps c.args.problem.weights sizes) (sym c.in_ok-director.ensures.sizes) c.requires.judges.1),
     )
 
+pub search-requires-clause-weights : goal.search-requires-clause-weights
+search-requires-clause-weights g c κs within =
+    let makes = map (λ m. (goal.MoveMaker-dyn g (m.vtable, m.value)).made m.value) c.args.domain.now.makers.items in
+    let domain = domain_view c.args.domain.now in
+    let problem = problem_view c.args.problem in
+    let begun = c.in_ok-director.ensures.begun makes (posed_in g.B.Book.meaning makes domain problem)
+    (is_posed g.B.Book.meaning makes domain problem) (is_origin g.B.Book.meaning makes domain problem) in
+    ap (λ (d : DirectorView). d.weights) begun.stands ∙ sym (c.as_slice.ensures ∙ c.in_ok-under.ensures)
+
 pub search-requires-clause-begun : goal.search-requires-clause-begun
 search-requires-clause-begun g c κs within =
     let makes = map (λ m. (goal.MoveMaker-dyn g (m.vtable, m.value)).made m.value) c.args.domain.now.makers.items in
@@ -52,8 +62,8 @@ search-requires-clause-begun g c κs within =
     let by = is_posed g.B.Book.meaning makes domain problem in
     (posed, by, c.in_ok-director.ensures.begun makes posed by (is_origin g.B.Book.meaning makes domain problem))
 
-pub returns-in_err-best : goal.returns-in_err-best
-returns-in_err-best g c =
+pub returns-in_err-searched : goal.returns-in_err-searched
+returns-in_err-searched g c =
     let makes = map (λ m. (goal.MoveMaker-dyn g (m.vtable, m.value)).made m.value) c.args.domain.now.makers.items in
     let domain = domain_view c.args.domain.now in
     let problem = problem_view c.args.problem in
@@ -65,9 +75,9 @@ returns-in_err-best g c =
     let opened = c.in_ok-director.ensures.prints makes posed by origin in
     let printed : HasPrinted posed 0 start (g.K.Sink.state c.begin.new.out) = record { wrote = opened.whole; later = opened.later } in
     let rest = rest_of_run posed steps (omega arith) in
-    failed_first c.from_residual-in_err-best.result c.in_err-best.field-0.0 (text_of posed (lines_after posed steps)) rest.rest (solve_text posed)
-    start (g.K.Sink.state c.search.new.out) rest.is c.from_residual-in_err-best.ensures.1
-    (c.in_err-best.ensures.prints posed start by (c.in_ok-director.ensures.begun makes posed by origin) printed)
+    failed_first c.from_residual-in_err-searched.result c.in_err-searched.field-0.0 (text_of posed (lines_after posed steps)) rest.rest (solve_text posed)
+    start (g.K.Sink.state c.search.new.out) rest.is c.from_residual-in_err-searched.ensures.1
+    (c.in_err-searched.ensures.prints posed start by (c.in_ok-director.ensures.begun makes posed by origin) printed)
 
 pub returns : goal.returns
 returns g c =
@@ -82,13 +92,13 @@ returns g c =
     let opened = c.in_ok-director.ensures.prints makes posed by origin in
     let printed : HasPrinted posed 0 start (g.K.Sink.state c.begin.new.out) = record { wrote = opened.whole; later = opened.later } in
     let begun = c.in_ok-director.ensures.begun makes posed by origin in
-    let stepped = c.in_ok-best.ensures.prints posed start by begun printed in
+    let stepped = c.in_ok-searched.ensures.prints posed start by begun printed in
     let front = text_of posed (lines_after posed steps) in
-    let best = best_text g.B.Book.meaning domain c.in_ok-best.best c.as_slice.result.now in
+    let best = best_text g.B.Book.meaning domain c.in_ok-searched.searched.best c.as_slice-2.result.now in
     let whole : front ++ best ≡ solve_text posed =
     ap (λ (text : List ℕ). front ++ text)
-    (best_text_is g.B.Book.meaning makes domain c.args.problem.settings posed by c.in_ok-best.best c.as_slice.result.now steps
-    (c.in_ok-best.ensures.best posed by begun) (c.as_slice.ensures ∙ c.in_ok-under.ensures))
+    (best_text_is g.B.Book.meaning makes domain c.args.problem.settings posed by c.in_ok-searched.searched.best c.as_slice-2.result.now steps
+    (c.in_ok-searched.ensures.searched posed by begun).best (c.as_slice-2.ensures ∙ c.in_ok-under.ensures))
     ∙ run_text posed steps refl in
     subst (λ (text : List ℕ). Prints c.print_best.result text start (g.K.Sink.state c.print_best.new.out)) whole
     (prints_more c.print_best.result front best start (g.K.Sink.state c.search.new.out) (g.K.Sink.state c.print_best.new.out)

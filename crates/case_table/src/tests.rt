@@ -2,16 +2,13 @@ ghost use Rattle.std.specs.Prelude.{◌≡◌, All, IfOk};
 
 use super::*;
 use plan_facts::Kind::{Name, Number};
-use plan_facts::{List, Memory, Text, is_name};
-use plan_json::Domain;
-use plan_ports::{MemFile, MemShelf, MemSink, NoGate};
-use plan_rules::{Book, Head, Kept, RuleDef, Rules};
+use plan_facts::{List, Memory, is_name};
+use plan_ports::{MemFile, MemShelf, MemSink};
+use plan_rules::{Book, Head, RuleDef};
 use plan_scores::Level;
-use std::alloc::Global;
+use plan_session::Status;
 use std::process::Abort;
-use std::sync::Wait;
 use std::test::Fail;
-use std::thread::Threads;
 use test_plans::VarSketch::Var;
 use test_plans::{ClassSketch, schema_of};
 
@@ -173,7 +170,7 @@ const GENERATED: &str =
     r#"{"domain":"timetable","facts":{"lesson":[{"group":"G0","id":1,"size":20,"subject":"S0","teacher":"T0"}],"room":[{"capacity":30,"id":1}],"timeslot":[{"day":1,"end":540,"id":1,"start":480}]},"format":1,"settings":{"seed":0,"steps":5}}
 "#;
 
-const CASES: [Case; 10] = [
+const CASES: [Case; 13] = [
     Case {
         words: "gen 0 1",
         problem: LESSONS,
@@ -200,6 +197,22 @@ const CASES: [Case; 10] = [
     },
     Case {
         words: "solve p",
+        problem: STEPS,
+        opens: &[],
+        puts: &[],
+        text: STEPPED,
+        status: Status::Ok,
+    },
+    Case {
+        words: "solve p --workers 2 --buffer 1",
+        problem: STEPS,
+        opens: &[],
+        puts: &[],
+        text: STEPPED,
+        status: Status::Ok,
+    },
+    Case {
+        words: "solve p --workers 16 --buffer 1024",
         problem: STEPS,
         opens: &[],
         puts: &[],
@@ -245,6 +258,14 @@ const CASES: [Case; 10] = [
         puts: &[],
         text: EXPLAINED,
         status: Status::Ok,
+    },
+    Case {
+        words: "tour 0 1",
+        problem: LESSONS,
+        opens: &[0],
+        puts: &[],
+        text: "refused problem domain\n",
+        status: Status::Problem,
     },
     Case {
         words: "",

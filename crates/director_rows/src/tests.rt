@@ -1,9 +1,16 @@
 ghost use Rattle.std.specs.Prelude.{◌≡◌, ◌<◌, All, IfOk, None, OnOk, length};
-ghost use Rattle.plan_json.specs.Seen.{IsAcceptedBy};
+ghost use Rattle.plan_changes.specs.Fits.{IsOfSchema};
+ghost use Rattle.plan_json.specs.Seen.{FitsItsDomain, IsAcceptedBy};
 ghost use Rattle.plan_rules.specs.Range.{sizes_of};
 ghost use Rattle.score_director.specs.View.{at_rest, attempted};
 
 mod cases;
+mod changes;
+mod feeds;
+mod lines;
+mod made;
+mod ranges;
+mod snapshot;
 
 use crate::part_number;
 use cases::{CASES, Case, Seen};
@@ -280,11 +287,14 @@ fn expect_worked<L: Ledger>(
     Ok(())
 }
 
-/// The domain of a problem that was accepted.
+/// The domain of a problem that was accepted, and whose plan is of the domain's schema.
 fn domain_of<'a>(domains: &'a [Domain<Shipped>], problem: &Problem) -> &'a Domain<Shipped>
     requires keeps { All (λ domain. ⟦<Rules<Shipped> as Kept>⟧.keeps domain.rules) domains.now }
     requires accepted { IsAcceptedBy domains.now problem.now }
-    ensures { ⟦<Rules<Shipped> as Judges>⟧.judges result.now.rules problem.now.weights (sizes_of problem.now.plan) }
+    requires fits { FitsItsDomain domains.now problem.now }
+    ensures judges { let p = problem.now in
+        ⟦<Rules<Shipped> as Judges>⟧.judges result.now.rules p.weights (sizes_of p.plan) }
+    ensures schema { IsOfSchema result.now.schema problem.now.plan }
 {
     &domains[problem.domain]
 }

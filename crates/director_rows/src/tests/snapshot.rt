@@ -1,0 +1,109 @@
+//! What there is before a change, to be compared with what there is after it.
+ghost use Rattle.std.specs.Prelude.{◌≡◌, ◌≤◌, length};
+
+use plan_facts::{List, Memory, Names, Plan, Raw, same_numbers};
+use plan_rules::{Book, Row, Rules};
+use plan_scores::PlanScore;
+use score_director::Director;
+use std::alloc::Global;
+
+/// A director's plan, how many names there are, what the plan is worth, and the rows of each rule.
+#[derive(Drop)]
+pub(super) struct Snapshot {
+    plan: Plan,
+    names: u32,
+    score: PlanScore,
+    rows: List<List<Row>>,
+}
+
+/// Whether two facts are kept alike.
+fn same_fact(one: &Raw, other: &Raw) -> bool {
+    one.id == other.id
+        && one.pinned == other.pinned
+        && same_numbers(&one.fields, &other.fields)
+        && one.values.as_slice() == other.values.as_slice()
+}
+
+/// Whether these are the same facts, in the same order.
+fn same_facts(some: &[Raw], others: &[Raw]) -> bool {
+    for (one, other) in some.iter().zip(others) {
+        if !same_fact(one, other) {
+            return false;
+        }
+    }
+    some.len() == others.len()
+}
+
+/// Whether two plans have the same facts, and new ones would get the same ids.
+fn same_plan(one: &Plan, other: &Plan) -> bool {
+    for class in 0..one.classes() {
+        if one.next_id(class) != other.next_id(class)
+            || !same_facts(one.facts(class), other.facts(class))
+        {
+            return false;
+        }
+    }
+    one.classes() == other.classes() && one.made() == other.made()
+}
+
+/// Whether these are the same rows, in the same order.
+fn same_rows(some: &List<Row>, others: &List<Row>) -> bool {
+    for (one, other) in some.as_slice().iter().zip(others.as_slice()) {
+        if !one.same(other) {
+            return false;
+        }
+    }
+    some.len() == others.len()
+}
+
+/// Whether each rule has the same rows.
+fn same_rows_each(some: &[List<Row>], others: &[List<Row>]) -> bool {
+    for (one, other) in some.iter().zip(others) {
+        if !same_rows(one, other) {
+            return false;
+        }
+    }
+    some.len() == others.len()
+}
+
+/// The rows of each of the first so many rules.
+fn rows_of<B: Book>(
+    alloc: Global,
+    director: &Director<B>,
+    count: u8,
+) -> Result<List<List<Row>>, Memory>
+    requires { count ≤ length director.now.rules }
+{
+    let mut rows = List::new(alloc);
+    for rule in 0..count {
+        rows.push(director.matches(rule)?)?;
+    }
+    Ok(rows)
+}
+
+impl Snapshot {
+    /// What there is now.
+    pub(super) fn of<B: Book>(
+        alloc: Global,
+        director: &Director<B>,
+        rules: &Rules<B>,
+        names: &Names,
+    ) -> Result<Snapshot, Memory>
+        requires own { rules.now.defs ≡ director.now.rules }
+    {
+        Ok(Snapshot {
+            plan: director.plan().copy()?,
+            names: names.count(),
+            score: director.score(),
+            rows: rows_of(alloc, director, rules.count())?,
+        })
+    }
+
+    /// Whether nothing differs.
+    pub(super) fn same(&self, other: &Snapshot) -> bool {
+        self.names == other.names
+            && self.score == other.score
+            && same_plan(&self.plan, &other.plan)
+            && same_rows_each(self.rows.as_slice(), other.rows.as_slice())
+    }
+}

@@ -1,0 +1,6 @@
+pub mod Counting
+pub mod Fewness
+pub mod Fronts
+pub mod LinesRead
+pub mod Made
+pub mod Refusals

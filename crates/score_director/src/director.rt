@@ -86,6 +86,13 @@ impl<B: Book> Director<B> {
         &self.plan
     }
 
+    /// The weight of each rule.
+    pub fn weights(&self) -> &[u32]
+        ensures { result.now ≡ self.now.weights }
+    {
+        self.weights.as_slice()
+    }
+
     /// The plan as it is now.
     pub fn into_plan(self) -> Plan
         ensures { result ≡ self.plan }

@@ -277,6 +277,7 @@ fn take<L: Ledger>(
     requires schema { IsOfSchema schema.now director.old.plan }
 {
     let Some((first, rest)) = turns.split_first() else {
+        assert!(rt; matches!(director.weights(), [3]));
         return Ok(());
     };
     let turn = *first;

@@ -1,5 +1,6 @@
-ghost use Rattle.std.specs.Prelude.{◌≡◌, ◌≤◌, ◌+◌, ◌^◌, ℕ, Ok, Err, length, position, IfOk};
+ghost use Rattle.std.specs.Prelude.{◌≡◌, ◌≤◌, ◌+◌, ◌^◌, ℕ, Ok, Err, All, length, position, IfOk};
 ghost use Rattle.std.specs.List.{position_or_len};
+ghost use Rattle.std.specs.List.Sorted.{IsNonDecreasing};
 ghost use Rattle.feed_lines.specs.Parts.{is_feed, lines_in};
 ghost use Rattle.run_journal.specs.Bounds.{bounds_from, bounds_of};
 ghost use Rattle.run_journal.specs.declared.fault.JournalFault.TheVariants.{Line};
@@ -58,6 +59,9 @@ pub fn bounds_of(
 ) -> Result<List<u32>, JournalFault>
     requires { length bytes.now ≤ 2 ^ 30 }
     ensures bounds { IfOk result (λ bounds. bounds_of bytes.now count steps ≡ Ok bounds) }
+    ensures count { IfOk result (λ bounds. length bounds ≡ count) }
+    ensures rising { IfOk result (λ bounds. IsNonDecreasing bounds) }
+    ensures within { IfOk result (λ bounds. All (λ bound. bound ≤ steps) bounds) }
     ensures line { (n : ℕ) → result ≡ Err (Line n) → bounds_of bytes.now count steps ≡ Err n }
 {
     let reading = read_lines(alloc, bytes, steps)?;

@@ -2,6 +2,7 @@
 #![tactic(auto)]
 
 mod book;
+mod copies;
 mod entry;
 mod inbox;
 mod journal;

@@ -1,4 +1,6 @@
-ghost use Rattle.std.specs.Prelude.{◌≡◌, All, IfOk};
+ghost use Rattle.std.specs.Prelude.{◌≡◌, ◌≤◌, All, IfOk};
+
+mod replays;
 
 use super::*;
 use plan_facts::Kind::{Name, Number};
@@ -7,6 +9,7 @@ use plan_ports::{MemFile, MemShelf, MemSink};
 use plan_rules::{Book, Head, RuleDef};
 use plan_scores::Level;
 use plan_session::Status;
+use replays::{JOURNALS, OPENS, REPLAYS, Replay, UNKNOWN, refused, unopened};
 use std::process::Abort;
 use std::test::Fail;
 use test_plans::VarSketch::Var;
@@ -71,15 +74,39 @@ fn school(alloc: Global) -> Result<Domain<Silent>, Fail>
     Ok(Domain::new(name, schema, rules, Vec::new(alloc)))
 }
 
+/// A file of these bytes under a name, whose takes of these numbers fail.
+fn file(alloc: Global, name: &[u8], bytes: &[u8], fail: &[u32]) -> Result<MemFile, Memory>
+    ensures { IfOk result (λ file. 1 ≤ file.most) }
+{
+    Ok(MemFile {
+        name: Vec::from_slice(alloc, name)?,
+        bytes: Vec::from_slice(alloc, bytes)?,
+        most: 50,
+        fail: Vec::from_slice(alloc, fail)?,
+    })
+}
+
 /// A shelf on which these bytes stand under the name `p`, and whose opens of these numbers fail.
 fn shelf(alloc: Global, bytes: &[u8], fail: &[u32]) -> Result<MemShelf, Memory> {
     let mut files = Vec::new(alloc);
-    files.push(MemFile {
-        name: Vec::from_slice(alloc, b"p")?,
-        bytes: Vec::from_slice(alloc, bytes)?,
-        most: 50,
-        fail: Vec::new(alloc),
-    })?;
+    files.push(file(alloc, b"p", bytes, &[])?)?;
+    Ok(MemShelf::new(alloc, files, Vec::from_slice(alloc, fail)?))
+}
+
+/// A shelf with a problem, a feed and a journal, whose opens of these numbers fail.
+fn shelf_of_three(
+    alloc: Global,
+    problem: &[u8],
+    feed: MemFile,
+    journal: &[u8],
+    fail: &[u32],
+) -> Result<MemShelf, Memory>
+    requires { 1 ≤ feed.most }
+{
+    let mut files = Vec::new(alloc);
+    files.push(file(alloc, b"p", problem, &[])?)?;
+    files.push(feed)?;
+    files.push(file(alloc, b"j", journal, &[])?)?;
     Ok(MemShelf::new(alloc, files, Vec::from_slice(alloc, fail)?))
 }
 
@@ -92,6 +119,7 @@ fn words_of(alloc: Global, line: &str) -> Result<Vec<Text>, Memory> {
 }
 
 /// The program's words, the text of `p`, the opens and the puts that fail; then what is written, and the status.
+#[derive(Drop)]
 struct Case {
     words: &'static str,
     problem: &'static str,
@@ -117,6 +145,46 @@ fn try_case<T: Threads + Wait + Sync + Abort>(
     assert_eq!(rt; status, case.status);
     assert_eq!(rt; shelf.lent(), 0);
     Ok(())
+}
+
+/// Runs `replay` over a shelf, and tries what it writes, its status, and that all files were given back.
+fn try_shelf<T: Threads + Wait + Sync + Abort>(
+    rt: &T,
+    alloc: Global,
+    mut shelf: MemShelf,
+    text: &str,
+    status: Status,
+    domains: &[Domain<Silent>],
+) -> Result<(), Fail>
+    requires keeps { All (λ domain. ⟦<Rules<Silent> as Kept>⟧.keeps domain.rules) domains.now }
+{
+    let words = words_of(alloc, "replay p --feed f --journal j")?;
+    let mut out = MemSink::new(alloc, 1000, Vec::new(alloc));
+    let ended = run(rt, alloc, &words, &mut shelf, &mut out, &NoGate, domains);
+    assert_eq!(rt; out.text(), text.as_bytes());
+    assert_eq!(rt; ended, status);
+    assert_eq!(rt; shelf.lent(), 0);
+    Ok(())
+}
+
+fn try_replay<T: Threads + Wait + Sync + Abort>(
+    rt: &T,
+    alloc: Global,
+    replay: &Replay,
+    domains: &[Domain<Silent>],
+) -> Result<(), Fail>
+    requires keeps { All (λ domain. ⟦<Rules<Silent> as Kept>⟧.keeps domain.rules) domains.now }
+{
+    let feed = file(alloc, b"f", replay.feed.as_bytes(), replay.takes)?;
+    let problem = replay.problem.as_bytes();
+    let shelf = shelf_of_three(
+        alloc,
+        problem,
+        feed,
+        replay.journal.as_bytes(),
+        replay.opens,
+    )?;
+    try_shelf(rt, alloc, shelf, replay.text, replay.status, domains)
 }
 
 /// A lesson that is placed, and one that isn't.
@@ -283,6 +351,77 @@ fn runs_commands_over_memory(rt: HostRuntime) -> Result<(), Fail> {
     let domains = [school];
     for case in &CASES {
         try_case(&rt, rt.alloc(), case, &domains)?;
+    }
+    Ok(())
+}
+
+#[test]
+fn refuses_words_that_are_no_command(rt: HostRuntime) -> Result<(), Fail> {
+    let school = school(rt.alloc())?;
+    let domains = [school];
+    for words in UNKNOWN {
+        let case = Case {
+            words,
+            problem: LESSONS,
+            opens: &[],
+            puts: &[],
+            text: "refused usage\n",
+            status: Status::Usage,
+        };
+        try_case(&rt, rt.alloc(), &case, &domains)?;
+    }
+    Ok(())
+}
+
+#[test]
+fn refused_journals_name_their_first_wrong_line(rt: HostRuntime) -> Result<(), Fail> {
+    let school = school(rt.alloc())?;
+    let domains = [school];
+    for (journal, text) in JOURNALS {
+        try_replay(&rt, rt.alloc(), &refused(journal, text), &domains)?;
+    }
+    Ok(())
+}
+
+#[test]
+fn each_file_of_a_replay_may_fail_to_open(rt: HostRuntime) -> Result<(), Fail> {
+    let school = school(rt.alloc())?;
+    let domains = [school];
+    for (opens, text, status) in OPENS {
+        let replay = unopened(opens, text, status);
+        try_replay(&rt, rt.alloc(), &replay, &domains)?;
+    }
+    Ok(())
+}
+
+#[test]
+fn replays_are_refused_for_the_first_of_their_files(rt: HostRuntime) -> Result<(), Fail> {
+    let school = school(rt.alloc())?;
+    let domains = [school];
+    for replay in &REPLAYS {
+        try_replay(&rt, rt.alloc(), replay, &domains)?;
+    }
+    Ok(())
+}
+
+/// A shelf whose feed has 4,096 empty lines and these bytes, and whose third open fails.
+fn long_shelf(alloc: Global, more: &[u8]) -> Result<MemShelf, Memory> {
+    let mut lines = vec![in alloc; b'\n'; 4096]?;
+    lines.extend_from_slice(more)?;
+    let feed = file(alloc, b"f", &lines, &[])?;
+    shelf_of_three(alloc, STEPS.as_bytes(), feed, b"", &[2])
+}
+
+#[test]
+fn a_feed_that_is_too_long_is_refused_before_the_journal(rt: HostRuntime) -> Result<(), Fail> {
+    let school = school(rt.alloc())?;
+    let domains = [school];
+    for (more, text, status) in [
+        (b"".as_slice(), "refused source\n", Status::Source),
+        (b"x".as_slice(), "refused feed\n", Status::FeedTooLong),
+    ] {
+        let shelf = long_shelf(rt.alloc(), more)?;
+        try_shelf(&rt, rt.alloc(), shelf, text, status, &domains)?;
     }
     Ok(())
 }

@@ -10,7 +10,7 @@ mod laws;
 mod team;
 mod worker;
 
-pub use alone::director_alone;
+pub use alone::{director_alone, keep_alone};
 pub use kit::Kit;
 pub use laws::workers_search;
 pub use team::Team;

@@ -401,15 +401,16 @@ impl<B: Book> Team<B> {
         Ok(())
     }
 
-    /// The plan of each worker, in its place.
-    pub fn into_plan(self) -> Plan
-        requires { self.is_torn ≡ false }
-        ensures { result ≡ self.worker.director.plan }
+    /// The director of one of the workers, which are all alike; the others are no more.
+    pub fn into_director(self) -> Director<B>
+        requires whole { self.is_torn ≡ false }
+        ensures director { result ≡ self.worker.director }
+        ensures rest { result.base ≡ None }
     {
         let Team { mut workers, .. } = self;
         let Some(worker) = workers.pop() else {
             unreachable!()
         };
-        worker.into_plan()
+        worker.into_director()
     }
 }

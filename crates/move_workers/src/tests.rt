@@ -251,7 +251,7 @@ fn try_worker(rt: &impl Abort, alloc: Global, kit: &Kit<'_, Silent>) -> Result<(
     judge_three(rt, &mut worker, kit)?;
     play_two(rt, &mut worker, kit)?;
     assert_eq!(rt; worker.director().score(), taken(4));
-    assert_eq!(rt; worker.into_plan().facts(SHIFT).len(), 4);
+    assert_eq!(rt; worker.into_director().plan().facts(SHIFT).len(), 4);
     Ok(())
 }
 
@@ -454,7 +454,7 @@ fn try_team<T: Threads + Abort + Sync>(
     assert_eq!(rt; team.score(), taken(4));
     assert_eq!(rt; team.lead().score(), taken(4));
     assert_eq!(rt; team.plan().facts(SHIFT).len(), 4);
-    assert_eq!(rt; team.into_plan().facts(SHIFT).len(), 4);
+    assert_eq!(rt; team.into_director().plan().facts(SHIFT).len(), 4);
     Ok(())
 }
 

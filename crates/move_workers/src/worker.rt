@@ -167,11 +167,12 @@ impl<B: Book> Worker<B> {
         Ok(())
     }
 
-    /// The worker's plan, in its place.
-    pub fn into_plan(self) -> Plan
-        ensures { result ≡ self.director.plan }
+    /// The worker's director, in its place.
+    pub fn into_director(self) -> Director<B>
+        ensures director { result ≡ self.director }
+        ensures rest { result.base ≡ None }
     {
         let Worker { director, hand: _ } = self;
-        director.into_plan()
+        director
     }
 }

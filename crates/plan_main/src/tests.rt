@@ -1,4 +1,4 @@
-ghost use Rattle.std.specs.Prelude.{All, IfOk};
+ghost use Rattle.std.specs.Prelude.{◌≤◌, All, IfOk};
 ghost use Rattle.std.specs.Thread.{IsSync};
 
 mod rows;
@@ -8,7 +8,8 @@ use plan_facts::{List, is_name};
 use plan_ports::{MemFile, MemShelf, MemSink};
 use plan_rules::{Kept, Rules, Test, Weigh};
 use rows::{
-    APART, FIRST_OF_TWO, FIRST_TAKEN, HANDS, MOVED, PARTS, REFUSED, ROWS, TOGETHER, TOGETHER_TEXT,
+    ADDED, ADDED_TEXT, APART, FIRST_OF_TWO, FIRST_TAKEN, HANDS, IDLE, MOVED, NAMED, PARTS, REFUSED,
+    ROWS, TOGETHER, TOGETHER_TEXT,
 };
 use shipped_domains::{Row, TestBody, WeighBody, shipped_test, shipped_weight};
 use std::process::Abort;
@@ -39,12 +40,14 @@ fn filled(alloc: Global, text: &str) -> Result<Vec<u8>, Memory> {
     Ok(out)
 }
 
-/// A run over memory: the words, the bytes of the file `p`, the opens and the puts that fail, and how many bytes a put
-/// takes.
+/// A run over memory: the words, the bytes of the files `p`, `f` and `j`, the opens and the puts that fail, and how many bytes a
+/// put takes.
 #[derive(Drop)]
 struct Asked {
     words: &'static str,
     problem: Vec<u8>,
+    feed: Vec<u8>,
+    journal: Vec<u8>,
     opens: &'static [u32],
     puts: Vec<u32>,
     most: usize,
@@ -62,6 +65,8 @@ fn solved(alloc: Global, problem: Vec<u8>) -> Asked {
     Asked {
         words: "solve p",
         problem,
+        feed: Vec::new(alloc),
+        journal: Vec::new(alloc),
         opens: &[],
         puts: Vec::new(alloc),
         most: 4096,
@@ -76,16 +81,25 @@ fn words_in(alloc: Global, line: &str) -> Result<Vec<Text>, Memory> {
     Ok(words)
 }
 
-/// A shelf on which these bytes stand under the name `p`, and whose opens of these numbers fail.
-fn shelf_of(alloc: Global, bytes: &[u8], fail: &[u32]) -> Result<MemShelf, Memory> {
-    let mut files = Vec::new(alloc);
-    files.push(MemFile {
-        name: Vec::from_slice(alloc, b"p")?,
+/// A file of these bytes under a name.
+fn file(alloc: Global, name: &[u8], bytes: &[u8]) -> Result<MemFile, Memory>
+    ensures { IfOk result (λ file. 1 ≤ file.most) }
+{
+    Ok(MemFile {
+        name: Vec::from_slice(alloc, name)?,
         bytes: Vec::from_slice(alloc, bytes)?,
         most: 4096,
         fail: Vec::new(alloc),
-    })?;
-    Ok(MemShelf::new(alloc, files, Vec::from_slice(alloc, fail)?))
+    })
+}
+
+/// The shelf of a run: its problem, its feed and its journal.
+fn shelf_of(alloc: Global, asked: &Asked) -> Result<MemShelf, Memory> {
+    let mut files = Vec::new(alloc);
+    files.push(file(alloc, b"p", &asked.problem)?)?;
+    files.push(file(alloc, b"f", &asked.feed)?)?;
+    files.push(file(alloc, b"j", &asked.journal)?)?;
+    Ok(MemShelf::new(alloc, files, Vec::from_slice(alloc, asked.opens)?))
 }
 
 fn run_one<T: Threads + Wait + Sync>(
@@ -97,7 +111,7 @@ fn run_one<T: Threads + Wait + Sync>(
     requires keeps { All (λ domain. ⟦<Rules<Shipped> as Kept>⟧.keeps domain.rules) domains.now }
 {
     let words = words_in(alloc, asked.words)?;
-    let mut shelf = shelf_of(alloc, &asked.problem, asked.opens)?;
+    let mut shelf = shelf_of(alloc, asked)?;
     let mut out = MemSink::new(
         alloc,
         asked.most.max(1),
@@ -183,6 +197,35 @@ fn runs_print_what_was_worked_by_hand(rt: HostRuntime) -> Result<(), Fail> {
     assert_eq!(rt; outcomes.len(), ROWS.len());
     for (outcome, case) in outcomes.iter().zip(ROWS) {
         expect(&rt, outcome, &filled(alloc, case.text)?, case.status);
+    }
+    Ok(())
+}
+
+/// A replay of a room and a lesson that come, by a journal.
+fn replayed(alloc: Global, journal: &str) -> Result<Asked, Memory> {
+    let mut one = solved(alloc, filled(alloc, IDLE)?);
+    one.words = "replay p --feed f --journal j";
+    one.feed.extend_from_slice(ADDED.as_bytes())?;
+    one.journal = filled(alloc, journal)?;
+    Ok(one)
+}
+
+/// The journal that names the boundaries, and the text of the run itself as its journal.
+fn asked_replays(alloc: Global) -> Result<Vec<Asked>, Memory> {
+    let mut asked = Vec::new(alloc);
+    for journal in [NAMED, ADDED_TEXT] {
+        asked.push(replayed(alloc, journal)?)?;
+    }
+    Ok(asked)
+}
+
+#[test]
+fn a_replay_takes_each_line_at_its_boundary(rt: HostRuntime) -> Result<(), Fail> {
+    let alloc = rt.alloc();
+    let outcomes = outcomes(&rt, alloc, asked_replays(alloc)?)?;
+    assert_eq!(rt; outcomes.len(), 2);
+    for outcome in &outcomes {
+        expect(&rt, outcome, &filled(alloc, ADDED_TEXT)?, Status::Ok);
     }
     Ok(())
 }

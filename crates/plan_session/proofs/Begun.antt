@@ -21,7 +21,7 @@ use Rattle.plan_ports.specs.Outside.{SinkState}
 use Rattle.score_director.specs.View.{DirectorView, at_rest, score_seen}
 use Rattle.plan_search.specs.Leg.{state_of}
 use Rattle.plan_search.specs.Placing.{placing_of}
-use Rattle.plan_search.specs.Posed.{Posed, is_decreasing, placing_from, plan_score, state_score, todo_of}
+use Rattle.plan_search.specs.Posed.{Posed, State, is_decreasing, placing_from, plan_score, state_score, todo_of}
 use Rattle.plan_search.specs.Quiet.{best_lines_after, leg_after, lines_after}
 use Rattle.plan_search.specs.RunLines.{best_lines, no_feed, opening_lines, placing_lines, solve_text, text_of}
 use Rattle.plan_search.specs.Todo.{todo_by}
@@ -98,16 +98,25 @@ decider_ready posed core d some = record {
 
 module _ (m : Meaning) (makers : List Made) (domain : DomainView) (settings : Settings) (posed : Posed)
     (by : IsPosedBy m makers domain settings posed) where
-  -- a placing of the plan as read is that of the posed problem
+  -- a placing of the plan of a state is that of the posed problem
+  pub placing_at : (state : State) (plan : PlanView) (weights : List ℕ) (course : Course) (placed : PlanView)
+      → plan ≡ state.plan → weights ≡ state.weights
+      → course_of course placed
+      ≡ placing_of (whole_score m domain.rules weights) plan (todo_by m domain.harder (is_decreasing settings.construction) plan)
+      → course_of course placed ≡ placing_from posed state
+  unfolding plan_score todo_of
+  placing_at state plan weights course placed plan_is weights_are is =
+      is
+      ∙ (λ i. placing_of (whole_score (by.means i) (by.rules i) (weights_are i)) (plan_is i)
+      (todo_by (by.means i) (by.harder i) (is_decreasing (by.settings_are i).construction) (plan_is i)))
+
+  -- that of the plan as read too
   pub placing_is : (plan : PlanView) (weights : List ℕ) (course : Course) (placed : PlanView) → IsOrigin plan weights posed
       → course_of course placed
       ≡ placing_of (whole_score m domain.rules weights) plan (todo_by m domain.harder (is_decreasing settings.construction) plan)
       → course_of course placed ≡ placing_from posed posed.origin
-  unfolding plan_score todo_of
   placing_is plan weights course placed origin is =
-      is
-      ∙ (λ i. placing_of (whole_score (by.means i) (by.rules i) (origin.weights_are i)) (origin.plan_is i)
-      (todo_by (by.means i) (by.harder i) (is_decreasing (by.settings_are i).construction) (origin.plan_is i)))
+      placing_at posed.origin plan weights course placed origin.plan_is origin.weights_are is
 
   -- the score of a director at rest is that of the state
   pub score_is : (weights : List ℕ) (plan : PlanView) → weights ≡ posed.origin.weights → plan ≡ (state_of (leg_after posed 0)).plan

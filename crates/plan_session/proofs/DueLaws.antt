@@ -17,10 +17,12 @@ use Rattle.plan_words.specs.declared.command.Command.{Command}
 use Rattle.plan_words.specs.declared.command.Command.TheVariants.{Solve, Replay, Score, Explain, Gen, Tour}
 use Rattle.plan_session.specs.declared.status.Status.{Status}
 use Rattle.plan_session.specs.declared.status.Status.TheVariants as status
+use Rattle.plan_session.specs.declared.task.Files.{Files}
 use Rattle.plan_session.specs.declared.task.Wanted.{Wanted}
-use Rattle.plan_session.specs.Due.{DueForBytes, DueForProblem, DueForTour, DueGenerated, DueUnread, DueUsage, IsDue, Run, generated_text, usage_line}
+use Rattle.plan_session.specs.Due.{DueForBytes, DueForProblem, DueForTour, DueGenerated, DueUnread, DueUsage, IsDue, generated_text, usage_line}
 use Rattle.plan_session.specs.Ending.{Ended, Says}
-use Rattle.plan_session.specs.Task.{Task, generated_by, generation_asked, task_asked, task_of, text_wanted, tour_asked, toured_by}
+use Rattle.plan_session.specs.Run.{Run}
+use Rattle.plan_session.specs.Task.{Task, generated_by, generation_asked, replay_asked, replayed_by, task_asked, task_of, text_wanted, tour_asked, toured_by}
 use Rattle.plan_session.proofs.EndingLaws.{ended_saying}
 
 -- what is due for a problem is due for its bytes
@@ -93,12 +95,39 @@ pub tours_nothing : (words : List (List ℕ)) → command words ≡ None → tou
 unfolding tour_asked
 tours_nothing words is = ap (option_and_then toured_by) is
 
--- a command that asks for something of a problem that it names generates none
-pub asked_generates_nothing : (c : Command) (task : Task) → task_of c ≡ Some task → (generated_by c ≡ None) × (toured_by c ≡ None)
-asked_generates_nothing (Solve name feed workers buffer) task is = (refl, refl)
-asked_generates_nothing (Replay name feed journal) task is = (refl, refl)
-asked_generates_nothing (Score name) task is = (refl, refl)
-asked_generates_nothing (Explain name) task is = (refl, refl)
+-- what a command asks to do again
+pub replays : (words : List (List ℕ)) (c : Command) (files : Option Files) → command words ≡ Some c → replayed_by c ≡ files → replay_asked words ≡ files
+unfolding replay_asked
+replays words c files is of_it = ap (option_and_then replayed_by) is ∙ of_it
+
+pub replays_nothing : (words : List (List ℕ)) → command words ≡ None → replay_asked words ≡ None
+unfolding replay_asked
+replays_nothing words is = ap (option_and_then replayed_by) is
+
+-- a command that isn't `replay` does no run again
+pub no_replay : (c : Command) → ((name feed journal : List ℕ) → c ≡ Replay name feed journal → ⊥) → replayed_by c ≡ None
+no_replay (Solve name feed workers buffer) other = refl
+no_replay (Replay name feed journal) other = absurd (other name feed journal refl)
+no_replay (Score name) other = refl
+no_replay (Explain name) other = refl
+no_replay (Gen number size) other = refl
+no_replay (Tour number size workers buffer) other = refl
+
+-- a command that asks to do a run again asks for nothing else
+pub replayed_asks_nothing : (c : Command) (files : Files) → replayed_by c ≡ Some files → (task_of c ≡ None) × (generated_by c ≡ None) × (toured_by c ≡ None)
+replayed_asks_nothing (Solve name feed workers buffer) files is = absurd cc
+replayed_asks_nothing (Replay name feed journal) files is = (refl, refl, refl)
+replayed_asks_nothing (Score name) files is = absurd cc
+replayed_asks_nothing (Explain name) files is = absurd cc
+replayed_asks_nothing (Gen number size) files is = absurd cc
+replayed_asks_nothing (Tour number size workers buffer) files is = absurd cc
+
+-- a command that asks for something of a problem that it names generates none and does no run again
+pub asked_generates_nothing : (c : Command) (task : Task) → task_of c ≡ Some task → (generated_by c ≡ None) × (toured_by c ≡ None) × (replayed_by c ≡ None)
+asked_generates_nothing (Solve name feed workers buffer) task is = (refl, refl, refl)
+asked_generates_nothing (Replay name feed journal) task is = absurd cc
+asked_generates_nothing (Score name) task is = (refl, refl, refl)
+asked_generates_nothing (Explain name) task is = (refl, refl, refl)
 asked_generates_nothing (Gen number size) task is = absurd cc
 asked_generates_nothing (Tour number size workers buffer) task is = absurd cc
 
@@ -109,16 +138,17 @@ due_said run said s text is due = subst (λ (given : Status). IsDue run given te
 generated : (run : Run) (number size : ℕ) (text : List ℕ) → run.generates ≡ Some (number, size) → text ≡ generated_text number size → DueGenerated run text
 generated run number size text is says = record { number = number; size = size; generates = is; says = says }
 
-used : (run : Run) (s : Status) (text : List ℕ) → run.asked ≡ None → run.generates ≡ None → run.tours ≡ None → Says status.Usage usage_line s text → IsDue run s text
-used run s text unasked ungenerated untoured said =
-    let due : DueUsage run text = record { unasked = unasked; ungenerated = ungenerated; untoured = untoured; says = said.1 } in
+used : (run : Run) (s : Status) (text : List ℕ) → run.asked ≡ None → run.generates ≡ None → run.tours ≡ None → run.replays ≡ None → Says status.Usage usage_line s text → IsDue run s text
+used run s text unasked ungenerated untoured unreplayed said =
+    let due : DueUsage run text =
+    record { unasked = unasked; ungenerated = ungenerated; untoured = untoured; unreplayed = unreplayed; says = said.1 } in
     due_said run status.Usage s text said.0 due
 
 -- what is due for a tour is due in the run that asks for it
 due_toured : (run : Run) (number size : ℕ) → run.tours ≡ Some (number, size) → (s : Status) (text : List ℕ)
     → DueForTour run.domains run.makers run.meaning number size s text → IsDue run s text
-due_toured run number size is status.Ok text due = inr (inr (record { number = number; size = size; tours = is; due = due }))
-due_toured run number size is status.Problem text due = inr (record { number = number; size = size; tours = is; due = due })
+due_toured run number size is status.Ok text due = inr (inr (inl (record { number = number; size = size; tours = is; due = due })))
+due_toured run number size is status.Problem text due = inr (inl (record { number = number; size = size; tours = is; due = due }))
 due_toured run number size is _ text due = absurd due
 
 -- for a command that neither generates a problem nor tours one, usage is due
@@ -133,15 +163,15 @@ due_usage domains makers meaning (Score name) ungenerated untoured s text said =
 due_usage domains makers meaning (Explain name) ungenerated untoured s text said = said
 
 -- what is due for a command that reads no problem is due in the run
-pub due_unread : (run : Run) (c : Command) → run.asked ≡ None → run.generates ≡ generated_by c → run.tours ≡ toured_by c
+pub due_unread : (run : Run) (c : Command) → run.asked ≡ None → run.generates ≡ generated_by c → run.tours ≡ toured_by c → run.replays ≡ None
     → (s : Status) (text : List ℕ) → DueUnread run.domains run.makers run.meaning c s text → IsDue run s text
-due_unread run (Gen number size) unasked generates tours s text said =
+due_unread run (Gen number size) unasked generates tours unreplayed s text said =
     due_said run status.Ok s text said.0 (inr (inl (generated run number size text generates said.1)))
-due_unread run (Tour number size workers buffer) unasked generates tours s text due = due_toured run number size tours s text due
-due_unread run (Solve name feed workers buffer) unasked generates tours s text said = used run s text unasked generates tours said
-due_unread run (Replay name feed journal) unasked generates tours s text said = used run s text unasked generates tours said
-due_unread run (Score name) unasked generates tours s text said = used run s text unasked generates tours said
-due_unread run (Explain name) unasked generates tours s text said = used run s text unasked generates tours said
+due_unread run (Tour number size workers buffer) unasked generates tours unreplayed s text due = due_toured run number size tours s text due
+due_unread run (Solve name feed workers buffer) unasked generates tours unreplayed s text said = used run s text unasked generates tours unreplayed said
+due_unread run (Replay name feed journal) unasked generates tours unreplayed s text said = used run s text unasked generates tours unreplayed said
+due_unread run (Score name) unasked generates tours unreplayed s text said = used run s text unasked generates tours unreplayed said
+due_unread run (Explain name) unasked generates tours unreplayed s text said = used run s text unasked generates tours unreplayed said
 
 -- the text that is wanted of a problem was said, or a front of it
 pub ended_wanted : (meaning : Meaning) (makers : List Made) (wanted asked : Wanted) (d : DomainView) (p : ProblemView) (old new : SinkState) (result : Status)

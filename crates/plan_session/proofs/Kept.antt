@@ -17,7 +17,7 @@ use Rattle.plan_search.specs.Judging.{winning}
 use Rattle.plan_search.specs.Leg.{history_of, idle_step, state_of, step_won_by, won_step}
 use Rattle.plan_search.specs.Posed.{Posed, State, candidate_at, move_of, plan_score, state_score}
 use Rattle.plan_search.specs.Quiet.{best_lines_after, game, leg_after}
-use Rattle.plan_search.specs.RunLines.{best_lines, text_of}
+use Rattle.plan_search.specs.RunLines.{best_lines, best_lines_of, text_of}
 use Rattle.plan_session.specs.Begun.{IsPosedBy, best_text}
 use Rattle.plan_session.specs.Course.{best_in, step_in}
 use Rattle.plan_session.proofs.Played.{best_next, state_next}
@@ -61,12 +61,17 @@ best_keeps posed (suc n) =
 
 module _ (m : Meaning) (makers : List Made) (domain : DomainView) (settings : Settings) (posed : Posed)
     (by : IsPosedBy m makers domain settings posed) where
-  -- the text of the best state is that of the best plan
-  pub best_text_is : (plan : PlanView) (weights : List ℕ) (n : ℕ) → plan ≡ (best_in posed (leg_after posed n)).plan
-      → weights ≡ posed.origin.weights → best_text m domain plan weights ≡ text_of posed (best_lines_after posed n)
+  -- the text of the best plan is that of a state with this plan and these weights
+  pub best_text_at : (plan : PlanView) (weights : List ℕ) (state : State) → plan ≡ state.plan → weights ≡ state.weights
+      → best_text m domain plan weights ≡ text_of posed (best_lines_of posed state)
   unfolding plan_score
-  best_text_is plan weights n is are_read =
-      let are : weights ≡ (best_in posed (leg_after posed n)).weights = are_read ∙ sym (best_keeps posed n) in
+  best_text_at plan weights state is are =
       λ i. lines_text (by.classes i) (by.rules i)
       (best_lines (whole_score (by.means i) (by.rules i) (are i) (is i)) (is i)
       (all_matches (by.means i) (records_of (is i)) (by.rules i) (are i)))
+
+  -- that of a search's best state too
+  pub best_text_is : (plan : PlanView) (weights : List ℕ) (n : ℕ) → plan ≡ (best_in posed (leg_after posed n)).plan
+      → weights ≡ posed.origin.weights → best_text m domain plan weights ≡ text_of posed (best_lines_after posed n)
+  best_text_is plan weights n is are_read =
+      best_text_at plan weights (best_in posed (leg_after posed n)) is (are_read ∙ sym (best_keeps posed n))

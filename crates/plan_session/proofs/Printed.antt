@@ -1,5 +1,5 @@
 -- Texts that are printed piece by piece.
-use Rattle.std.proofs.Common.{◌∙◌, ◌+◌, ◌≤◌, ℕ, List, ◌++◌, length, take, Result, Ok, Err, inl, inr, refl, sym, ap, arith}
+use Rattle.std.proofs.Common.{◌∙◌, ◌+◌, ◌≤◌, ℕ, List, [], ◌++◌, length, take, Result, Ok, Err, IfOk, inl, inr, refl, sym, ap, subst, arith, ◌≡◌}
 use Rattle.std.proofs.Math.Seq.{take-append-add}
 use Rattle.std.proofs.lemmas.List.{append-nil, append_assoc, length-append, take-append-le}
 use Rattle.plan_ports.specs.Outside.{LaterSink, SinkFails, SinkState, Wrote, WroteFront}
@@ -78,3 +78,17 @@ prints_nothing text sink = record {
   failed = λ is. cc;
   later = later_stays sink;
 }
+
+-- what is printed under another name of the text
+pub prints_as : {A : Type 0} (result : Result A PrintFault) (a b : List ℕ) (s0 s1 : SinkState) → a ≡ b → Prints result a s0 s1 → Prints result b s0 s1
+prints_as result a b s0 s1 is prints = subst (λ (text : List ℕ). Prints result text s0 s1) is prints
+
+-- what holds of a value where a call succeeds, and what follows from that
+pub if_ok_map : {A E : Type 0} {P Q : A → Type 0} (result : Result A E) → IfOk result P → ((value : A) → P value → Q value) → IfOk result Q
+if_ok_map (Ok value) is all = all value is
+if_ok_map (Err fault) is all = is
+
+-- a call that printed nothing printed the empty text
+pub prints_none : {A : Type 0} (value : A) (sink : SinkState) → Prints {A = A} (Ok value) [] sink sink
+prints_none value sink =
+    record { whole = λ tells. sym (append-nil sink.written); front = tt; failed = λ is. cc; later = later_stays sink }

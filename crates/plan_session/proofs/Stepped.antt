@@ -9,6 +9,8 @@ use Rattle.foragers.specs.declared.Seen.{Seen}
 use Rattle.plan_scores.specs.declared.plan_score.PlanScore.{PlanScore}
 use Rattle.plan_settings.specs.declared.setting.Selector.{Selector}
 use Rattle.move_selectors.specs.Candidates.{Made}
+use Rattle.plan_facts.specs.declared.record.ClassDef.{ClassDef}
+use Rattle.plan_rules.specs.declared.rule.RuleDef.{RuleDef}
 use Rattle.plan_rules.specs.Meaning.{Meaning}
 use Rattle.plan_reports.specs.declared.line.Line.{Line}
 use Rattle.plan_reports.specs.declared.line.Line.TheVariants as line
@@ -243,6 +245,13 @@ step_line_is m posed k leg winner score is_best worker best means wins scored we
 pub step_text_is : (posed : Posed) (k : ℕ) (leg : BareLeg) (report : Report) (one : Line) → IsReportOf posed report → one ≡ line_in posed k leg
     → lines_text report.schema.now report.rules.now (one ∷ []) ≡ step_text posed k leg
 step_text_is posed k leg report one of is i = lines_text (of.classes i) (of.rules i) (is i ∷ [])
+
+-- a step's line is printed under the problem's names
+pub prints_named : {A : Type 0} (result : Result A PrintFault) (posed : Posed) (k : ℕ) (leg : BareLeg) (classes : List ClassDef) (rules : List RuleDef)
+    (one : Line) (before after : SinkState) → classes ≡ posed.classes → rules ≡ posed.rules → one ≡ line_in posed k leg
+    → Prints result (lines_text classes rules (one ∷ [])) before after → Prints result (step_text posed k leg) before after
+prints_named result posed k leg classes rules one before after classes_are rules_are is prints =
+    subst (λ (text : List ℕ). Prints result text before after) (λ i. lines_text (classes_are i) (rules_are i) (is i ∷ [])) prints
 
 -- a step's line is printed
 pub prints_line : {A : Type 0} (result : Result A PrintFault) (posed : Posed) (k : ℕ) (leg : BareLeg) (report : Report) (one : Line) (before after : SinkState)

@@ -8,6 +8,7 @@ use Rattle.plan_rules.specs.Totals.{all_matches, whole_score}
 use Rattle.move_selectors.specs.Candidates.{Made}
 use Rattle.plan_json.specs.Domains.{DomainView}
 use Rattle.plan_reports.specs.Lines.{lines_text}
+use Rattle.plan_reports.specs.declared.line.Line.{Line}
 use Rattle.score_director.specs.View.{DirectorView, at_rest}
 use Rattle.plan_search.specs.Leg.{state_of}
 use Rattle.plan_search.specs.Posed.{Posed}
@@ -57,8 +58,12 @@ best_text m domain plan weights =
 abbrev pub run_line_of : DomainView → List ℕ
 run_line_of domain = lines_text domain.classes domain.rules (line.Run domain.name ∷ [])
 
--- the text of a leg up to its start score
-abbrev pub opening_of : DomainView → Course → PlanScore → List ℕ
-opening_of domain course start =
-    lines_text domain.classes domain.rules
-    (line.Leg 0 ∷ placing_lines course.placed course.stuck ++ line.Start start ∷ [])
+-- the lines of a leg up to its start score: its boundary, what became of the lines that it took, and its placing
+abbrev pub leg_opening : ℕ → List Line → Course → PlanScore → List Line
+leg_opening boundary told course start =
+    line.Leg boundary ∷ told ++ placing_lines course.placed course.stuck ++ line.Start start ∷ []
+
+-- their text
+abbrev pub opening_of : DomainView → ℕ → List Line → Course → PlanScore → List ℕ
+opening_of domain boundary told course start =
+    lines_text domain.classes domain.rules (leg_opening boundary told course start)

@@ -119,14 +119,18 @@ pub record IsInCourse (core : Core) (worker : WorkerView) (best : BestSoFar) (po
   pub at : IsAt posed leg worker best
   pub few : length leg.steps < k
 
--- a core stands for events that were all taken, after which a boundary is to be cut, where nothing was posted
-pub record IsEnded (core : Core) (k : ℕ) : Type 0 where
+-- a core stands for events that were all taken, after which a boundary is to be cut, where so many lines were posted
+pub record IsEndedAfter (core : Core) (k posts : ℕ) : Type 0 where
   pub terms : Terms
   pub events : List Event
   pub history : History
   pub stands : StandsFor terms core events
   pub taken : IsTaken terms events
-  pub ends : EndsStep terms (desk terms events) k 0 history
+  pub ends : EndsStep terms (desk terms events) k posts history
+
+-- the same where nothing was posted
+abbrev pub IsEnded : Core → ℕ → Type 0
+IsEnded core k = IsEndedAfter core k 0
 
 -- the same, where a leg's step under this number was the last one, and the leg is this one with it
 pub record HasEnded (posed : Posed) (k : ℕ) (leg : BareLeg) (core : Core) : Type 0 where

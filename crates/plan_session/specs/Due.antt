@@ -1,6 +1,6 @@
 -- Which text is due, and under which status.
-use Rattle.std.specs.Prelude.{◌≡◌, ◌++◌, ◌⊎◌, ℕ, List, Option, Some, None, Ok, Err, codes, slice_get}
-use Rattle.plan_ports.specs.Outside.{FailsAt, Holds, ShelfState}
+use Rattle.std.specs.Prelude.{◌≡◌, ◌++◌, ◌⊎◌, ℕ, List, Some, None, Ok, Err, codes, slice_get}
+use Rattle.plan_ports.specs.Outside.{FailsAt, Holds}
 use Rattle.plan_rules.specs.Meaning.{Meaning}
 use Rattle.move_selectors.specs.Candidates.{Made}
 use Rattle.problem_faults.specs.declared.fault.ProblemFault.{ProblemFault}
@@ -14,7 +14,9 @@ use Rattle.plan_session.specs.declared.status.Status.TheVariants as status
 use Rattle.plan_gen.specs.Text.{problem_text}
 use Rattle.plan_words.specs.declared.command.Command.{Command}
 use Rattle.plan_words.specs.declared.command.Command.TheVariants.{Gen, Tour}
+use Rattle.plan_session.specs.DueReplay.{DueJournal, DueNoFeed, DueNoJournal, DueNoProblem, DueOverlong, DueReplayProblem, DueReplayed, source_line}
 use Rattle.plan_session.specs.Ending.{Says}
+use Rattle.plan_session.specs.Run.{Run}
 use Rattle.plan_session.specs.Toured.{tour_text}
 use Rattle.plan_session.specs.Task.{Task, text_wanted}
 
@@ -22,26 +24,9 @@ use Rattle.plan_session.specs.Task.{Task, text_wanted}
 abbrev pub usage_line : List ℕ
 usage_line = codes "refused usage\n"
 
--- the line that says that the problem couldn't be read
-abbrev pub source_line : List ℕ
-source_line = codes "refused source\n"
-
 -- a generated problem, as one line
 abbrev pub generated_text : ℕ → ℕ → List ℕ
 generated_text number size = problem_text number size ++ codes "\n"
-
--- a run as contracts see it: what its words ask for of a problem, the number and the size of the problem that they ask to
--- generate, and of the one of whose run they ask for the sum, the domains that problems may be of, the makers of moves of each,
--- what the closures of their rules mean, and its shelf before and after it
-pub record Run : Type 0 where
-  pub asked : Option Task
-  pub generates : Option (ℕ × ℕ)
-  pub tours : Option (ℕ × ℕ)
-  pub domains : List DomainView
-  pub makers : List (List Made)
-  pub meaning : Meaning
-  pub shelf : ShelfState
-  pub shelf_after : ShelfState
 
 -- a text of each posed problem
 abbrev pub TextOf : Type 0
@@ -102,11 +87,12 @@ pub record DueTour (run : Run) (status : Status) (text : List ℕ) : Type 0 wher
   pub tours : run.tours ≡ Some (number, size)
   pub due : DueForTour run.domains run.makers run.meaning number size status text
 
--- 2: the words are no command that is built
+-- 2: the words are no command, or none that is built
 pub record DueUsage (run : Run) (text : List ℕ) : Type 0 where
   pub unasked : run.asked ≡ None
   pub ungenerated : run.generates ≡ None
   pub untoured : run.tours ≡ None
+  pub unreplayed : run.replays ≡ None
   pub says : text ≡ usage_line
 
 -- 3: the shelf failed at the problem's name, which isn't sound
@@ -126,13 +112,16 @@ pub record DueProblem (run : Run) (line : List ℕ) : Type 0 where
 
 -- the text that is due in a run under a status
 abbrev pub IsDue : Run → Status → List ℕ → Type 0
-IsDue run status.Ok text = DueOk run text ⊎ DueGenerated run text ⊎ DueTour run status.Ok text
+IsDue run status.Ok text = DueOk run text ⊎ DueGenerated run text ⊎ DueTour run status.Ok text ⊎ DueReplayed run text
 IsDue run status.Usage text = DueUsage run text
-IsDue run status.Source text = DueSource run text
-IsDue run status.Problem text = DueProblem run text ⊎ DueTour run status.Problem text
+IsDue run status.Source text = DueSource run text ⊎ DueNoProblem run text ⊎ DueNoJournal run text
+IsDue run status.Problem text = DueProblem run text ⊎ DueTour run status.Problem text ⊎ DueReplayProblem run text
+IsDue run status.Feed text = DueNoFeed run text
+IsDue run status.Journal text = DueJournal run text
+IsDue run status.FeedTooLong text = DueOverlong run text
 IsDue run _ text = ⊥
 
--- what is due for a command that reads no problem: what it generates, a tour, or that it is none that is built
+-- what is due for a command that reads no problem: what it generates, a tour, or that it is none that is built so far
 abbrev pub DueUnread : List DomainView → List (List Made) → Meaning → Command → Status → List ℕ → Type 0
 DueUnread domains makers meaning (Gen number size) = Says status.Ok (generated_text number size)
 DueUnread domains makers meaning (Tour number size workers buffer) = DueForTour domains makers meaning number size

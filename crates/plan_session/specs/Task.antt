@@ -7,6 +7,7 @@ use Rattle.plan_search.specs.Posed.{Posed}
 use Rattle.plan_search.specs.RunLines.{score_text, solve_text}
 use Rattle.plan_session.specs.Explained.{explain_text}
 use Rattle.plan_session.specs.Toured.{tour_text}
+use Rattle.plan_session.specs.declared.task.Files.{Files}
 use Rattle.plan_session.specs.declared.task.Wanted.{Wanted}
 use Rattle.plan_session.specs.declared.task.Wanted.TheVariants as want
 
@@ -19,7 +20,7 @@ pub record Task : Type 0 where
 abbrev pub task : List ℕ → Wanted → Task
 task name wanted = record { name = name; wanted = wanted }
 
--- the commands that are built so far: `solve` without a feed, `score` and `explain`
+-- what a command asks for of the one file that it reads: `solve` without a feed, `score` and `explain`
 abbrev pub task_of : Command → Option Task
 task_of (Solve name None workers buffer) =
     Some (task name (want.Solution (record { workers = workers; buffer = buffer })))
@@ -30,7 +31,7 @@ task_of (Explain name) = Some (task name want.Explanation)
 task_of (Gen number size) = None
 task_of (Tour number size workers buffer) = None
 
--- the task that the words ask for; none where they are no command, or none that is built
+-- the task that the words ask for; none where they are no command, or none of these
 unfoldable pub task_asked : List (List ℕ) → Option Task
 task_asked words = option_and_then task_of (command words)
 
@@ -59,6 +60,19 @@ toured_by (Tour number size workers buffer) = Some (number, size)
 -- the number and the size of the problem of whose run the words ask for the sum; none where they ask for something else
 unfoldable pub tour_asked : List (List ℕ) → Option (ℕ × ℕ)
 tour_asked words = option_and_then toured_by (command words)
+
+-- the files of the run that a command asks to do again
+abbrev pub replayed_by : Command → Option Files
+replayed_by (Solve name feed workers buffer) = None
+replayed_by (Replay name feed journal) = Some (record { name = name; feed = feed; journal = journal })
+replayed_by (Score name) = None
+replayed_by (Explain name) = None
+replayed_by (Gen number size) = None
+replayed_by (Tour number size workers buffer) = None
+
+-- the files of the run that the words ask to do again; none where they ask for something else
+unfoldable pub replay_asked : List (List ℕ) → Option Files
+replay_asked words = option_and_then replayed_by (command words)
 
 -- the text that is wanted of a posed problem: the same for all workers
 abbrev pub text_wanted : Wanted → Posed → List ℕ

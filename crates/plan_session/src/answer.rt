@@ -32,7 +32,7 @@ use std::alloc::Global;
 use std::thread::Threads;
 
 /// The status of a text that was printed, or wasn't.
-fn status_of(printed: Result<(), PrintFault>) -> Status
+pub fn status_of(printed: Result<(), PrintFault>) -> Status
     ensures { (text : List ℕ) (old new : SinkState) → Prints printed text old new
         → Ended (Says Status.Ok text) old new result }
 {
@@ -44,7 +44,7 @@ fn status_of(printed: Result<(), PrintFault>) -> Status
 }
 
 /// Writes the line that refuses a problem.
-fn refuse<K: Sink>(alloc: Global, fault: &ProblemFault, out: &mut K) -> Status
+pub fn refuse<K: Sink>(alloc: Global, fault: &ProblemFault, out: &mut K) -> Status
     requires { fault.now ≢ ProblemFault.Memory }
     ensures ended { let is_due = Says Status.Problem (refusal_line fault.now) in
         Ended is_due (K.state out.old) (K.state out.new) result }

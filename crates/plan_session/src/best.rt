@@ -1,13 +1,17 @@
-ghost use Rattle.std.specs.Prelude.{◌≡◌, ◌∷◌, ◌++◌, [], IfOk, OnOk, if◌then◌else◌};
+ghost use Rattle.std.specs.Prelude.{◌≡◌, ◌∷◌, ◌++◌, [], IfOk, None, OnOk, if◌then◌else◌};
 ghost use Rattle.plan_facts.specs.Plan.{PlanView};
 ghost use Rattle.plan_rules.specs.Range.{sizes_of};
 ghost use Rattle.plan_scores.specs.Order.{is_better_plan};
+ghost use Rattle.score_director.specs.View.{at_rest};
 ghost use Rattle.plan_session.specs.Toured.{one_more};
 ghost use Rattle.plan_session.specs.WayBack.{IsWayBack};
 
+use move_workers::keep_alone;
 use plan_facts::{Memory, Plan};
 use plan_moves::Edit;
+use plan_rules::{Book, Judges, Rules};
 use plan_scores::PlanScore;
+use score_director::Director;
 use std::alloc::Global;
 
 /// The best plan of a leg so far: its score, and the edits that lead back to it from the plan as it is, the last one
@@ -63,4 +67,27 @@ pub fn lead_back(back: Vec<Edit>, plan: &mut Plan)
     'edits: while let Some(edit) = back.pop() {
         edit.apply(plan);
     }
+}
+
+/// Leads a director back to the best plan, by these edits.
+pub fn lead_director<B: Book>(
+    rules: &Rules<B>,
+    back: Vec<Edit>,
+    director: &mut Director<B>,
+) -> Result<(), Memory>
+    requires judges { ⟦<Rules<B> as Judges>⟧.judges rules.now director.old.weights (sizes_of director.old.plan) }
+    requires own { rules.now.defs ≡ director.old.rules }
+    requires rest { director.old.base ≡ None }
+    requires way { (best : PlanView) × IsWayBack best back.items director.old.plan }
+    ensures best { OnOk result ((best : PlanView) → IsWayBack best back.items director.old.plan
+        → director.new ≡ at_rest rules.now.defs director.old.weights best) }
+    ensures judges { ⟦<Rules<B> as Judges>⟧.judges rules.now director.new.weights (sizes_of director.new.plan) }
+    ensures own { rules.now.defs ≡ director.new.rules }
+    ensures rest { director.new.base ≡ None }
+{
+    let mut back = back;
+    'edits: while let Some(edit) = back.pop() {
+        keep_alone(director, rules, &edit)?;
+    }
+    Ok(())
 }

@@ -1,4 +1,4 @@
-ghost use Rattle.std.specs.Prelude.{◌≡◌, ◌≤◌, ◌∷◌, ◌++◌, [], List, IfOk, OnOk, length, map};
+ghost use Rattle.std.specs.Prelude.{◌≡◌, ◌≤◌, ◌∷◌, ◌++◌, [], List, IfOk, None, OnOk, length, map};
 ghost use Rattle.plan_rules.specs.Range.{sizes_of};
 ghost use Rattle.plan_rules.specs.Totals.{whole_score};
 ghost use Rattle.plan_settings.specs.Settings.{IsInRange};
@@ -14,7 +14,7 @@ ghost use Rattle.plan_search.specs.Todo.{todo_by};
 ghost use Rattle.construction.specs.Placed.{course_of};
 ghost use Rattle.score_director.specs.View.{at_rest, score_seen};
 ghost use Rattle.move_selectors.specs.Candidates.{Made};
-ghost use Rattle.plan_session.specs.Begun.{BeginsLeg, IsBegun, IsOrigin, IsPosedBy, best_text, opening_of, run_line_of};
+ghost use Rattle.plan_session.specs.Begun.{BeginsLeg, IsBegun, IsOrigin, IsPosedBy, best_text, leg_opening, opening_of, run_line_of};
 ghost use Rattle.plan_ports.specs.Outside.{SinkState};
 ghost use Rattle.plan_session.specs.Course.{HasPrinted};
 ghost use Rattle.plan_session.specs.Posed.{posed_in};
@@ -83,6 +83,31 @@ fn is_decreasing(construction: Construction) -> bool
     }
 }
 
+/// Places what is null in a director's plan. Answers the course of the placing.
+pub fn place_on<B: Book>(
+    alloc: Global,
+    domain: &Domain<B>,
+    settings: &Settings,
+    director: &mut Director<B>,
+) -> Result<Course, Memory>
+    requires judges { let seen = director.old in
+        ⟦<Rules<B> as Judges>⟧.judges domain.now.rules seen.weights (sizes_of seen.plan) }
+    requires own { domain.now.rules.defs ≡ director.old.rules }
+    requires rest { director.old.base ≡ None }
+    ensures rest { OnOk result (director.new ≡ at_rest domain.now.rules.defs director.old.weights director.new.plan) }
+    ensures course { let score = whole_score B.meaning domain.now.rules.defs director.old.weights in
+        let decreasing = is_decreasing settings.now.construction in
+        let todo = todo_by B.meaning domain.now.rules.harder decreasing director.old.plan in
+        IfOk result (λ course. course_of course director.new.plan ≡ placing_of score director.old.plan todo) }
+    ensures sizes { sizes_of director.new.plan ≡ sizes_of director.old.plan }
+{
+    let rules = &domain.rules;
+    let decreasing = is_decreasing(settings.construction);
+    let todo = order_alone(alloc, director, rules, decreasing)?;
+    let course = place_alone(alloc, director, rules, &domain.schema, todo.as_slice())?;
+    Ok(course)
+}
+
 /// A director of the plan, placed, and the course of the placing.
 fn place_plan<B: Book>(
     alloc: Global,
@@ -98,16 +123,26 @@ fn place_plan<B: Book>(
         IfOk result (λ done. course_of done.1 done.0.plan ≡ placing_of score plan todo) }
     ensures sizes { IfOk result (λ done. sizes_of done.0.plan ≡ sizes_of plan) }
 {
-    let rules = &domain.rules;
-    let mut director = director_alone(alloc, rules, plan, weights)?;
-    let decreasing = is_decreasing(settings.construction);
-    let todo = order_alone(alloc, &director, rules, decreasing)?;
-    let course = place_alone(alloc, &mut director, rules, &domain.schema, todo.as_slice())?;
+    let mut director = director_alone(alloc, &domain.rules, plan, weights)?;
+    let course = place_on(alloc, domain, settings, &mut director)?;
     Ok((director, course))
 }
 
-/// Appends the lines of a leg up to its start score.
-fn write_opening(
+/// Appends the line of a leg's boundary, and those that say what became of the lines that it took.
+fn write_taken(
+    report: &Report<'_>,
+    boundary: u32,
+    told: &[Line],
+    out: &mut Vec<u8>,
+) -> Result<(), Memory>
+    ensures { Writes report.now result out.old.items out.new.items (line.Leg boundary ∷ told.now) }
+{
+    report.line(&Line::Leg { boundary }, out)?;
+    report.lines(told, out)
+}
+
+/// Appends the lines of a placing and of the start score behind it.
+fn write_placing(
     alloc: Global,
     report: &Report<'_>,
     course: &Course,
@@ -115,16 +150,32 @@ fn write_opening(
     out: &mut Vec<u8>,
 ) -> Result<(), Memory>
     ensures { Writes report.now result out.old.items out.new.items
-        (line.Leg 0 ∷ placing_lines course.now.placed course.now.stuck ++ line.Start start ∷ []) }
+        (placing_lines course.now.placed course.now.stuck ++ line.Start start ∷ []) }
 {
-    report.line(&Line::Leg { boundary: 0 }, out)?;
     report.placed(alloc, course.placed.as_slice(), out)?;
     report.stuck(course.stuck, out)?;
     report.line(&Line::Start(start), out)
 }
 
+/// Appends the lines of a leg up to its start score: what became of the lines that it took, and its placing.
+fn write_opening(
+    alloc: Global,
+    report: &Report<'_>,
+    boundary: u32,
+    told: &[Line],
+    course: &Course,
+    start: PlanScore,
+    out: &mut Vec<u8>,
+) -> Result<(), Memory>
+    ensures { Writes report.now result out.old.items out.new.items
+        (leg_opening boundary told.now course.now start) }
+{
+    write_taken(report, boundary, told, out)?;
+    write_placing(alloc, report, course, start, out)
+}
+
 /// Prints the first line of a run.
-fn print_run<B: Book, K: Sink>(
+pub fn print_run<B: Book, K: Sink>(
     alloc: Global,
     domain: &Domain<B>,
     buffer: &mut Vec<u8>,
@@ -143,10 +194,12 @@ fn print_run<B: Book, K: Sink>(
     print_line(&report, &Line::Run { domain: name }, buffer, out)
 }
 
-/// Prints the lines of a leg up to its start score.
-fn print_opening<B: Book, K: Sink>(
+/// Prints the lines of a leg up to its start score: what became of the lines that it took, and its placing.
+pub fn print_opening<B: Book, K: Sink>(
     alloc: Global,
     domain: &Domain<B>,
+    boundary: u32,
+    told: &[Line],
     course: &Course,
     start: PlanScore,
     buffer: &mut Vec<u8>,
@@ -154,14 +207,14 @@ fn print_opening<B: Book, K: Sink>(
 ) -> Result<(), PrintFault>
     requires empty { buffer.old.items ≡ [] }
     ensures emptied { OnOk result (buffer.new.items ≡ []) }
-    ensures prints { let text = opening_of (domain_view domain.now) course.now start in
+    ensures prints { let text = opening_of (domain_view domain.now) boundary told.now course.now start in
         Prints result text (K.state out.old) (K.state out.new) }
 {
     let report = Report {
         schema: &domain.schema,
         rules: domain.rules.defs.as_slice(),
     };
-    write_opening(alloc, &report, course, start, buffer)?;
+    write_opening(alloc, &report, boundary, told, course, start, buffer)?;
     print(buffer, out)
 }
 
@@ -216,7 +269,16 @@ pub fn begin<B: Book, K: Sink>(
 {
     print_run(alloc, domain, buffer, out)?;
     let (director, course, core) = place_and_start(alloc, domain, settings, asked, plan, weights)?;
-    print_opening(alloc, domain, &course, director.score(), buffer, out)?;
+    print_opening(
+        alloc,
+        domain,
+        0,
+        &[],
+        &course,
+        director.score(),
+        buffer,
+        out,
+    )?;
     Ok((director, core))
 }
 
@@ -239,7 +301,7 @@ fn write_best(
 }
 
 /// Prints the lines of a best plan.
-fn print_best<B: Book, K: Sink>(
+pub fn print_best<B: Book, K: Sink>(
     alloc: Global,
     domain: &Domain<B>,
     plan: &Plan,
@@ -323,7 +385,7 @@ pub fn search<T: Threads + Sync, B: Book, K: Sink, G: Gate + Sync>(
         out,
     )?;
     let BestSoFar { score, back, wins } = best;
-    let mut plan = team.into_plan();
+    let mut plan = team.into_director().into_plan();
     lead_back(back, &mut plan);
     Ok(Searched {
         best: plan,

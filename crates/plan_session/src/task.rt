@@ -1,9 +1,11 @@
-ghost use Rattle.std.specs.Prelude.{◌≡◌, IfSome, option_map};
+ghost use Rattle.std.specs.Prelude.{◌≡◌, IfOk, IfSome, option_map};
 ghost use Rattle.plan_words.specs.Command.{IsSized};
-ghost use Rattle.plan_session.specs.Task.{IsFit, task, task_of};
+ghost use Rattle.plan_session.specs.Task.{IsFit, replayed_by, task, task_of};
 
 use crate::searching::Hands;
+use plan_facts::{Memory, Text};
 use plan_words::Command;
+use std::alloc::Global;
 
 /// What a command wants of a problem.
 #[derive(Clone, Copy, Debug, PartialEq, Eq)]
@@ -22,8 +24,16 @@ pub enum Wanted {
     },
 }
 
-/// The name of the problem that a command reads, and what it wants of it; none for a command that reads none, or that isn't
-/// built yet.
+/// The names of the files of a run that is done again: its problem, its feed and its journal.
+#[derive(Debug, Drop)]
+pub struct Files {
+    pub name: Text,
+    pub feed: Text,
+    pub journal: Text,
+}
+
+/// The name of the problem that a command reads, and what it wants of it; none for a command that reads none, that reads
+/// other files too, or that isn't built yet.
 pub fn task_of(command: &Command) -> Option<(&[u8], Wanted)>
     requires sized { IsSized command.now }
     ensures task { option_map (λ asked. task asked.0.now asked.1) result ≡ task_of command.now }
@@ -45,5 +55,23 @@ pub fn task_of(command: &Command) -> Option<(&[u8], Wanted)>
         Command::Score { name } => Some((name.as_slice(), Wanted::Score)),
         Command::Explain { name } => Some((name.as_slice(), Wanted::Explanation)),
         _ => None,
+    }
+}
+
+/// The names of the files of the run that a command asks to do again; none for another command.
+pub fn files_of(alloc: Global, command: &Command) -> Result<Option<Files>, Memory>
+    ensures { IfOk result (λ files. files ≡ replayed_by command.now) }
+{
+    match command {
+        Command::Replay {
+            name,
+            feed,
+            journal,
+        } => Ok(Some(Files {
+            name: name.copy(alloc)?,
+            feed: feed.copy(alloc)?,
+            journal: journal.copy(alloc)?,
+        })),
+        _ => Ok(None),
     }
 }

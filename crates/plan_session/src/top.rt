@@ -1,17 +1,19 @@
 ghost use Rattle.std.specs.Prelude.{◌≡◌, All, Some, None, map};
 ghost use Rattle.plan_ports.specs.Outside.{LaterShelf, LaterSink};
 ghost use Rattle.plan_json.specs.Seen.{domain_views};
-ghost use Rattle.plan_session.specs.Due.{IsDue, Run};
+ghost use Rattle.plan_session.specs.Due.{IsDue};
 ghost use Rattle.plan_session.specs.Ending.{Ended};
-ghost use Rattle.plan_session.specs.Task.{IsFit, generation_asked, task, task_asked, tour_asked};
+ghost use Rattle.plan_session.specs.Run.{Run};
+ghost use Rattle.plan_session.specs.Task.{IsFit, generation_asked, replay_asked, task, task_asked, tour_asked};
 
 use crate::answer::answer;
 use crate::generate::answer_unread;
 use crate::outside::{fetch, say};
+use crate::replay_files::replay_files;
 use crate::status::Status;
-use crate::task::{Wanted, task_of};
+use crate::task::{Wanted, files_of, task_of};
 use plan_facts::Text;
-use plan_json::Domain;
+use plan_json::{BYTE_LIMIT, Domain};
 use plan_moves::MoveMaker as Maker;
 use plan_ports::{Gate, ReadFault, Shelf, Sink};
 use plan_rules::{Book, Kept, Rules};
@@ -37,6 +39,7 @@ fn perform<T: Threads + Sync, B: Book, S: Shelf, K: Sink, G: Gate + Sync>(
       asked = Some (task name.now wanted);
       generates = None;
       tours = None;
+      replays = None;
       domains = domain_views domains.now;
       makers = map (λ d. map (λ m. (⟦<dyn Maker as Maker>⟧ m.vtable).made m.value) d.makers.items) domains.now;
       meaning = B.meaning;
@@ -48,7 +51,7 @@ fn perform<T: Threads + Sync, B: Book, S: Shelf, K: Sink, G: Gate + Sync>(
     ensures shelf { LaterShelf (S.state shelf.old) (S.state shelf.new) }
     ensures sink { LaterSink (K.state out.old) (K.state out.new) }
 {
-    match fetch(alloc, shelf, name) {
+    match fetch(alloc, shelf, name, BYTE_LIMIT) {
         Ok(bytes) => answer(rt, alloc, gate, wanted, &bytes, domains, out),
         Err(ReadFault::Memory) => Status::Memory,
         Err(ReadFault::Failed) => say(out, Status::Source, b"refused source\n"),
@@ -59,8 +62,10 @@ fn perform<T: Threads + Sync, B: Book, S: Shelf, K: Sink, G: Gate + Sync>(
 /// Carries out what the words ask for: a problem is read from the shelf, and what is due for it is written to the
 /// sink. `solve NAME` prints the search of its plan, step by step, with the best plan and its score; `score NAME` the
 /// score of its plan as read; `explain NAME` that with each match, and what each fact adds. `gen NUMBER SIZE` prints a
-/// generated problem, and `tour NUMBER SIZE` the sum of the run that `solve` prints of it; they read nothing. Other commands
-/// aren't built yet.
+/// generated problem, and `tour NUMBER SIZE` the sum of the run that `solve` prints of it; they read nothing. `replay NAME
+/// --feed NAME --journal NAME` prints the run that takes each line of the feed at the boundary that the journal names; the
+/// problem is read and judged before the feed is opened, and the feed is read whole before the journal is opened. `solve`
+/// with a feed isn't built yet.
 pub fn run<T: Threads + Wait + Sync, B: Book, S: Shelf, K: Sink + Send, G: Gate + Sync>(
     rt: &T,
     alloc: Global,
@@ -79,6 +84,7 @@ where
       asked = task_asked words.now;
       generates = generation_asked words.now;
       tours = tour_asked words.now;
+      replays = replay_asked words.now;
       domains = domain_views domains.now;
       makers = map (λ d. map (λ m. (⟦<dyn Maker as Maker>⟧ m.vtable).made m.value) d.makers.items) domains.now;
       meaning = B.meaning;
@@ -88,7 +94,7 @@ where
         Ended (IsDue run) (K.state out.old) (K.state out.new) result }
 
     // Words that are no command that is built, or that reads no problem, leave the shelf alone, however it ended.
-    ensures untouched { task_asked words.now ≡ None → shelf.new ≡ shelf.old }
+    ensures untouched { task_asked words.now ≡ None → replay_asked words.now ≡ None → shelf.new ≡ shelf.old }
 
     // Every file that was opened is given back, and shelf and sink promise what they promised.
     ensures given_back { (S.state shelf.new).lent ≡ (S.state shelf.old).lent }
@@ -96,9 +102,13 @@ where
     ensures sink { LaterSink (K.state out.old) (K.state out.new) }
 {
     match read_words(alloc, words) {
-        Ok(command) => match task_of(&command) {
-            Some((name, wanted)) => perform(rt, alloc, gate, name, wanted, shelf, out, domains),
-            None => answer_unread(rt, alloc, gate, &command, domains, out),
+        Ok(command) => match files_of(alloc, &command) {
+            Ok(Some(files)) => replay_files(rt, alloc, gate, &files, shelf, out, domains),
+            Ok(None) => match task_of(&command) {
+                Some((name, wanted)) => perform(rt, alloc, gate, name, wanted, shelf, out, domains),
+                None => answer_unread(rt, alloc, gate, &command, domains, out),
+            },
+            Err(_) => Status::Memory,
         },
         Err(WordFault::Memory) => Status::Memory,
         Err(WordFault::Usage) => say(out, Status::Usage, b"refused usage\n"),

@@ -96,6 +96,38 @@ match -1hard/0medium/0soft lesson#1 lesson#2
 end
 "#;
 
+/// Three steps over a slot, a room and no lesson.
+pub(super) const IDLE: &str =
+    r#"{"format":1,"domain":"timetable","settings":{"steps":3},"facts":{"timeslot":[<s1><R><r1><L><E>"#;
+
+/// A room and a lesson that come while it is searched.
+pub(super) const ADDED: &str = r#"{"do":"add","class":"room","fields":{"capacity":10}}
+{"do":"add","class":"lesson","fields":{"subject":"M","teacher":"A","group":"G","size":5}}
+"#;
+
+/// The boundaries at which they come.
+pub(super) const NAMED: &str = "change 1 1 x\nchange 2 3 x\n";
+
+/// The run that takes them there.
+pub(super) const ADDED_TEXT: &str = r#"run timetable
+leg 0
+start <Z>
+step 1 none <Z>
+leg 1
+change 1 1 applied room#2
+start <Z>
+step 2 none <Z>
+step 3 none <Z>
+leg 3
+change 2 3 applied lesson#1
+place lesson#1 slot=1 room=1 <Z>
+start <Z>
+best <Z>
+lesson#1 slot=1 room=1
+<TZ>
+end
+"#;
+
 /// A step that ends with the first candidate that is accepted.
 pub(super) const FIRST_TAKEN: &str =
     r#"{"format":1,"domain":"roster","settings":{"steps":1,"selectors":["change"]},"facts":{<N>}}"#;
@@ -161,8 +193,14 @@ pub(super) struct Case {
 
 pub(super) const ROWS: &[Case] = &[
     Case {
+        words: "solve --workers=2 p",
+        problem: APART,
+        text: APART_TEXT,
+        status: Status::Ok,
+    },
+    Case {
         words: "solve p",
-        problem: r#"{"format":1,"domain":"timetable","settings":{"steps":3},"facts":{"timeslot":[<s1><R><r1><L><E>"#,
+        problem: IDLE,
         text: r#"run timetable
 leg 0
 start <Z>

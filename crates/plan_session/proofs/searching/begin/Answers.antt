@@ -1,4 +1,4 @@
-use Rattle.std.proofs.Common.{◌≡◌, ◌∙◌, ◌++◌, ℕ, List, refl, ap}
+use Rattle.std.proofs.Common.{◌≡◌, ◌∙◌, ◌++◌, ℕ, List, [], refl, ap}
 use Rattle.score_director.specs.View.{score_seen}
 use Rattle.plan_json.specs.Seen.{domain_view}
 use Rattle.plan_search.specs.Quiet.{leg_after, lines_after}
@@ -28,12 +28,12 @@ returns-in_err-print_opening-clause-prints g c = λ makers posed by origin.
     let m = g.B.Book.meaning in
     let domain = domain_view c.args.domain.now in
     let done = c.in_ok-director in
-    let whole : run_line_of domain ++ opening_of domain done.course c.score.result ≡ text_of posed (lines_after posed 0) =
+    let whole : run_line_of domain ++ opening_of domain 0 [] done.course c.score.result ≡ text_of posed (lines_after posed 0) =
     ap (λ (text : List ℕ). run_line_of domain ++ text)
     (opening_is m makers domain c.args.settings.now posed by domain.classes domain.rules c.args.plan c.args.weights done.course done.director.plan c.score.result
     refl refl origin done.ensures.course (c.score.ensures ∙ ap (score_seen m) done.ensures.rest))
     ∙ run_line_first m makers domain c.args.settings.now posed by domain.classes domain.rules domain.name refl refl refl in
-    failed_then c.in_ok-print_run.field-0 c.from_residual-in_err-print_opening.result c.in_err-print_opening.field-0.0 (run_line_of domain) (opening_of domain done.course c.score.result)
+    failed_then c.in_ok-print_run.field-0 c.from_residual-in_err-print_opening.result c.in_err-print_opening.field-0.0 (run_line_of domain) (opening_of domain 0 [] done.course c.score.result)
     (text_of posed (lines_after posed 0)) (g.K.Sink.state c.args.out.now) (g.K.Sink.state c.print_run.new.out) (g.K.Sink.state c.print_opening.new.out)
     whole c.from_residual-in_err-print_opening.ensures.1 c.in_ok-print_run.ensures.prints c.in_err-print_opening.ensures.prints
 
@@ -42,12 +42,12 @@ returns-clause-prints g c = λ makers posed by origin.
     let m = g.B.Book.meaning in
     let domain = domain_view c.args.domain.now in
     let done = c.in_ok-director in
-    let whole : run_line_of domain ++ opening_of domain done.course c.score.result ≡ text_of posed (lines_after posed 0) =
+    let whole : run_line_of domain ++ opening_of domain 0 [] done.course c.score.result ≡ text_of posed (lines_after posed 0) =
     ap (λ (text : List ℕ). run_line_of domain ++ text)
     (opening_is m makers domain c.args.settings.now posed by domain.classes domain.rules c.args.plan c.args.weights done.course done.director.plan c.score.result
     refl refl origin done.ensures.course (c.score.ensures ∙ ap (score_seen m) done.ensures.rest))
     ∙ run_line_first m makers domain c.args.settings.now posed by domain.classes domain.rules domain.name refl refl refl in
-    prints_then c.in_ok-print_run.field-0 c.in_ok-print_opening.field-0 _ (run_line_of domain) (opening_of domain done.course c.score.result)
+    prints_then c.in_ok-print_run.field-0 c.in_ok-print_opening.field-0 _ (run_line_of domain) (opening_of domain 0 [] done.course c.score.result)
     (text_of posed (lines_after posed 0)) (g.K.Sink.state c.args.out.now) (g.K.Sink.state c.print_run.new.out) (g.K.Sink.state c.print_opening.new.out)
     whole c.in_ok-print_run.ensures.prints c.in_ok-print_opening.ensures.prints
 

@@ -63,7 +63,7 @@ lead_back-requires g c =
     (starts_at m _ domain settings posed by c.args.director c.args.core c.in_ok-team.team.worker c.begin-best.result c.score-score.result c.requires.begun.2
     (ap (λ (t : TeamView). t.worker) c.in_ok-team.ensures) c.score-score.ensures c.begin-best.ensures.score c.begin-best.ensures.back c.begin-best.ensures.wins) in (
       (best_in posed (leg_after posed settings.steps)).plan,
-      way_from posed (leg_after posed settings.steps) c.do_steps.new.team.worker c.do_steps.new.best c.into_plan-plan.result course.at c.into_plan-plan.ensures,
+      way_from posed (leg_after posed settings.steps) c.do_steps.new.team.worker c.do_steps.new.best c.into_plan-plan.result course.at (c.into_plan-plan.ensures ∙ ap (λ (d : DirectorView). d.plan) c.into_director.ensures.director),
     )
 
 pub returns-clause-prints : goal.returns-clause-prints
@@ -90,7 +90,7 @@ returns-clause-searched g c = λ posed by begun.
     (ap (λ (t : TeamView). t.worker) c.in_ok-team.ensures) c.score-score.ensures c.begin-best.ensures.score c.begin-best.ensures.back c.begin-best.ensures.wins) in
     record {
       best = c.lead_back.ensures.best _
-          (way_from posed (leg_after posed settings.steps) c.do_steps.new.team.worker c.do_steps.new.best c.into_plan-plan.result course.at c.into_plan-plan.ensures);
+          (way_from posed (leg_after posed settings.steps) c.do_steps.new.team.worker c.do_steps.new.best c.into_plan-plan.result course.at (c.into_plan-plan.ensures ∙ ap (λ (d : DirectorView). d.plan) c.into_director.ensures.director));
       score = course.at.score;
       wins = course.at.wins;
     }

@@ -1,9 +1,9 @@
-use Rattle.std.proofs.Common.{◌∙◌, ap, Some, Err, refl, sym}
+use Rattle.std.proofs.Common.{◌∙◌, ap, Some, Err, inl, refl, sym}
 use Rattle.problem_faults.specs.declared.fault.ProblemFault.TheVariants.{TooLong}
 use Rattle.problem_faults.specs.Words.{refusal_line}
 use Rattle.plan_json.proofs.ReadLaws.{problem_of-long}
 use Rattle.plan_session.specs.declared.status.Status.TheVariants as status
-use Rattle.plan_session.specs.Due.{source_line}
+use Rattle.plan_session.specs.DueReplay.{source_line}
 use Rattle.plan_session.specs.Task.{task}
 use Rattle.plan_session.proofs.DueLaws.{due_for_task}
 use Rattle.plan_session.proofs.EndingLaws.{Ended-weaker, ended_saying}
@@ -19,12 +19,12 @@ returns-in-Ok-clause-ended g c =
 pub returns-in-Err-Failed-clause-ended : goal.returns-in-Err-Failed-clause-ended
 returns-in-Err-Failed-clause-ended g c =
     ended_saying _ status.Source source_line _ _ _
-    (record {
+    (inl (record {
       task = task c.args.name.now c.args.wanted;
       asked = refl;
       fails = c.in-Err-Failed.ensures.failed (ap (λ fault. Err fault) c.in-Err-Failed.field-0-is);
       says = refl;
-    }) c.say.ensures.ended
+    })) c.say.ensures.ended
 
 pub returns-in-Err-TooLong-clause-ended : goal.returns-in-Err-TooLong-clause-ended
 returns-in-Err-TooLong-clause-ended g c =

@@ -23,7 +23,7 @@ range_from : (low a n : ℕ) → low ≤ a → All (λ k. low ≤ k) (range_with
 range_from low a zero le = All-nil (λ k. low ≤ k)
 range_from low a (suc n) le = All-cons (λ k. low ≤ k) a (range_with_len (a + 1) n) le (range_from low (a + 1) n (omega (arith, le)))
 
-range_rises : (a n : ℕ) → Rising (λ (k l : ℕ). k < l) (range_with_len a n)
+pub range_rises : (a n : ℕ) → Rising (λ (k l : ℕ). k < l) (range_with_len a n)
 range_rises a zero = tt
 range_rises a (suc n) = (range_from (suc a) (a + 1) n (omega arith), range_rises (a + 1) n)
 

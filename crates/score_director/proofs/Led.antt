@@ -1,9 +1,12 @@
 -- A director's network from call to call.
-use Rattle.std.proofs.Common.{◌≡◌, ◌∙◌, ◌<◌, ◌≤◌, ◌&&◌, ℕ, zero, suc, Bool, true, false, cond, List, [], ◌∷◌, Option, None, Some, All, length, map, refl, sym, ap, subst, arith}
+use Rattle.std.proofs.Common.{◌≡◌, ◌∙◌, ◌<◌, ◌≤◌, ℕ, zero, suc, true, false, cond, List, [], ◌∷◌, Option, None, Some, All, length, refl, sym, ap, subst, arith}
 use Rattle.std.specs.Prelude.{IfSome, option_map, slice_get}
 use Rattle.std.proofs.lemmas.Slice.Zip.{AllZip-long}
 use Rattle.std.proofs.lemmas.List.{length-map}
 use Rattle.std.proofs.lemmas.List.Elements.{All-cons, All-nil}
+use Rattle.plan_changes.specs.Deeds.{is_weight}
+use Rattle.plan_changes.specs.Performed.{MayPerform, plan_after}
+use Rattle.plan_changes.specs.Ready.{ReadyView}
 use Rattle.plan_facts.specs.declared.record.ClassDef.{ClassDef}
 use Rattle.plan_facts.specs.Plan.{ClassView, IsPlan, PlanView, records_of}
 use Rattle.plan_moves.specs.declared.edit.Set.{Set}
@@ -19,23 +22,25 @@ use Rattle.plan_rules.specs.Range.{MayJudge, sizes_of}
 use Rattle.plan_rules.proofs.Accepted.{sound_rules}
 use Rattle.plan_rules.proofs.Lengths.{few_rows_in_range}
 use Rattle.plan_rules.specs.declared.row.Part.{Part}
-use Rattle.plan_rules.specs.Rows.{Facts, rule_rows}
+use Rattle.plan_rules.specs.Rows.{rule_rows}
 use Rattle.plan_rules.proofs.Sums.{same-trans}
-use Rattle.head_changes.specs.Takers.{FactsTurn}
 use Rattle.stream_heads.specs.Meant.{Rows}
 use Rattle.score_director.specs.declared.rule.RuleNet.{RuleNet}
 use Rattle.score_director.specs.Fresh.{IsFreshNet, no_facts}
 use Rattle.score_director.specs.Net.{AreNetsOf, NetView, StandsForFacts, weights_of}
 use Rattle.score_director.specs.NetState.{IsPlanInRange, IsSameNet, KeepsNet, NetBegan, NetCommitted, NetRolledBack, Turns}
 use Rattle.score_director.specs.Rule.{IsNetOf}
-use Rattle.score_director.specs.Standing.{AreRowsKept, HasRoomBeside, NetStands, StoodBefore, rows_kept, totals_of}
+use Rattle.score_director.specs.Standing.{AreRowsKept, HasRoomBeside, StoodBefore, rows_kept, totals_of}
 use Rattle.score_director.proofs.FreshLaws.{fresh_nets_stand}
 use Rattle.score_director.proofs.Standing.{back_own, back_stands, begun_own, begun_stands, kept_own, kept_stands, stands_keep, stands_weigh}
-use Rattle.score_director.specs.Keys.{all_keys, both_keys}
+use Rattle.score_director.specs.Holders.{key_at, keys_about}
+use Rattle.score_director.specs.Keys.{all_keys}
 use Rattle.score_director.specs.Ordered.{BecomeRuleRows}
 use Rattle.score_director.specs.Worth.{HasTurned, IsNetFor}
+use Rattle.score_director.proofs.About.{about_known, about_turns}
+use Rattle.score_director.proofs.Alike.{KeepsOthers, change_others}
+use Rattle.score_director.proofs.AsMany.{as_many_classes}
 use Rattle.score_director.proofs.AllKeys.{all_turn, keys_known, plan_within}
-use Rattle.score_director.proofs.BothKeys.{both_known, both_turn}
 use Rattle.score_director.proofs.Turned.{applied_sound}
 use Rattle.score_director.proofs.Turning.{edit_turns_facts, plans_are_facts}
 use Rattle.score_director.proofs.Worth.{sizes_of-applied}
@@ -143,18 +148,35 @@ module _ (m : Meaning) (rules : List RuleDef) where
         turn = edit_turns_facts plan sets is.sound legal (subst AreTouchesInOrder touched order);
       }))
 
-  -- another plan of as many classes turns what the network stands for at the keys of both
-  pub plan_turns : (old plan : PlanView) (net : NetView) (keys : List Touch) → IsNetFor m rules old net → IsPlan plan → length plan.classes ≡ length old.classes → keys ≡ both_keys old plan → HasTurned m rules net keys plan
-  plan_turns old plan net keys is sound many are =
-      let le : length plan.classes ≤ net.classes = (let e = is.classes in omega (arith, e, many)) in
-      subst (λ (ks : List Touch). HasTurned m rules net ks plan) (sym are) (record {
+  -- where a trial of the network begins, what has turned since it stood still has
+  pub begun_turned : (plan : PlanView) (keys : List Touch) (old new : NetView) → NetBegan old new → HasTurned m rules old keys plan → HasTurned m rules new keys plan
+  begun_turned plan keys old new began has = record {
+    sound = has.sound;
+    own = begun_own rules old new began has.own;
+    classes = subst (λ (n : ℕ). length plan.classes ≤ n) (sym began.classes) has.classes;
+    known = subst (λ (n : ℕ). All (λ (key : Touch). key.class < n) keys) (sym began.classes) has.known;
+    facts = has.facts;
+    stands = begun_stands m rules old new has.facts began has.stands;
+    turn = has.turn;
+  }
+
+  -- a change of a fact turns what the network stands for at the keys about the fact
+  pub change_turns : (plan after : PlanView) (net : NetView) (keys : List Touch) (ready : ReadyView) (names : List (List ℕ)) (count : ℕ) → IsNetFor m rules plan net → IsPlan after → MayPerform ready plan count → is_weight ready.deed ≡ false
+      → after ≡ plan_after ready names plan → keys ≡ keys_about plan (key_at ready.class ready.id) → HasTurned m rules net keys after
+  change_turns plan after net keys ready names count is sound may fact done about =
+      let made = may.fact fact in
+      let there = made.fits.there in
+      let many : length after.classes ≡ length plan.classes = ap (λ (p : PlanView). length p.classes) done ∙ as_many_classes ready names plan count may in
+      let le = is.classes in
+      let others = subst (KeepsOthers ready.class ready.id plan) (sym done) (change_others ready names plan is.sound made fact) in
+      subst (λ (ks : List Touch). HasTurned m rules net ks after) (sym about) (record {
         sound = sound;
         own = is.own;
-        classes = le;
-        known = both_known old plan net.classes is.classes le;
-        facts = records_of old;
+        classes = omega (arith, le, many);
+        known = about_known plan (key_at ready.class ready.id) net.classes (omega (arith, there, le)) le;
+        facts = records_of plan;
         stands = is.stands;
-        turn = both_turn old plan is.sound sound;
+        turn = about_turns plan after (key_at ready.class ready.id) is.sound sound others;
       })
 
   -- where a network stood for facts that turned, and turned with them, it is the network for the plan

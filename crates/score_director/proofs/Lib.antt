@@ -1,3 +1,5 @@
+pub mod About
+pub mod Alike
 pub mod Alive
 pub mod AllKeys
 pub mod AllLaws
@@ -5,7 +7,6 @@ pub mod AllRules
 pub mod Apart
 pub mod AsMany
 pub mod Asked
-pub mod BothKeys
 pub mod ChainLaws
 pub mod Chains
 pub mod Fewer

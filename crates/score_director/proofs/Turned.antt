@@ -118,11 +118,11 @@ some_same e = cc
 abbrev same_key : Touch → ℕ → ℕ → Bool
 same_key key class id = (key.class == class) && (key.id == id)
 
-either_left : (a b : Bool) → (a || b) ≡ false → a ≡ false
+pub either_left : (a b : Bool) → (a || b) ≡ false → a ≡ false
 either_left true b is = is
 either_left false b is = refl
 
-either_right : (a b : Bool) → (a || b) ≡ false → b ≡ false
+pub either_right : (a b : Bool) → (a || b) ≡ false → b ≡ false
 either_right true b is = absurd (true_no_false is)
   where
     true_no_false : true ≡ false → ⊥

@@ -1,6 +1,7 @@
 pub mod Chain
 pub mod Changed
 pub mod Fresh
+pub mod Holders
 pub mod Holding
 pub mod Keys
 pub mod Laws

@@ -6,6 +6,7 @@ mod all;
 mod chain;
 mod director;
 mod fresh;
+mod holders;
 mod laws;
 mod net;
 mod network;

@@ -1,11 +1,11 @@
 //! What a plan is worth by the network that stands for it.
 ghost use Rattle.std.specs.Prelude.{◌≡◌, ◌++◌, false, true, IfOk, IfSome, OnErr, OnOk, length};
-ghost use Rattle.plan_facts.specs.Plan.{IsPlan, records_of};
+ghost use Rattle.plan_facts.specs.Plan.{PlanView, records_of};
 ghost use Rattle.plan_rules.specs.Range.{sizes_of};
 ghost use Rattle.plan_rules.specs.Totals.{whole_score};
 ghost use Rattle.score_director.specs.Net.{AreNetsOf, weights_of};
 ghost use Rattle.score_director.specs.NetState.{IsSameNet, KeepsNet, is_open};
-ghost use Rattle.score_director.specs.Keys.{all_keys, both_keys, keys_in, new_keys_in};
+ghost use Rattle.score_director.specs.Keys.{all_keys, keys_in};
 ghost use Rattle.score_director.specs.Worth.{HasTurned, IsNetFor};
 
 use crate::net::Net;
@@ -42,30 +42,6 @@ fn keys_of(alloc: Global, plan: &Plan) -> Result<Vec<Touch>, Memory>
     let mut keys = Vec::new(alloc);
     for class in 0..plan.classes() {
         push_keys(plan, class, &mut keys)?;
-    }
-    Ok(keys)
-}
-
-/// Appends the keys of the records of a class that another plan lacks.
-fn push_new_keys(old: &Plan, plan: &Plan, class: u8, keys: &mut Vec<Touch>) -> Result<(), Memory>
-    ensures { OnOk result (keys.new.items ≡ keys.old.items ++ new_keys_in old.now plan.now class) }
-{
-    for id in plan.ids(class) {
-        if old.raw(class, *id).is_none() {
-            keys.push(Touch { class, id: *id })?;
-        }
-    }
-    Ok(())
-}
-
-/// The keys of all records of two plans, each once.
-fn keys_of_both(alloc: Global, old: &Plan, plan: &Plan) -> Result<Vec<Touch>, Memory>
-    ensures keys { IfOk result (λ keys. keys.items ≡ both_keys old.now plan.now) }
-    ensures sound { OnOk result (IsPlan plan.now) }
-{
-    let mut keys = keys_of(alloc, old)?;
-    for class in 0..plan.classes() {
-        push_new_keys(old, plan, class, &mut keys)?;
     }
     Ok(keys)
 }
@@ -207,29 +183,28 @@ pub fn turned<B: Book, L: Ledger>(
     Ok(score_now(alloc, net, rules, plan, weights, steps)?)
 }
 
-/// Leads the network on to another plan of as many classes, and says what that is worth. Nothing is asked of records that
-/// both plans have alike. At want of memory the network still stands for the plan before.
-pub fn led_over<B: Book, L: Ledger>(
+/// Leads the network on to a plan that has turned at these keys since the network stood for it, and says what that is
+/// worth. At want of memory the network still stands for the plan before.
+pub fn led_on<B: Book, L: Ledger>(
     alloc: Global,
     net: &mut Net,
     rules: &Rules<B>,
-    old: &Plan,
     plan: &Plan,
+    keys: &[Touch],
     weights: &[u32],
     steps: &mut Steps<L>,
 ) -> Result<PlanScore, Memory>
     requires judges { ⟦<Rules<B> as Judges>⟧.judges rules.now weights.now (sizes_of plan.now) }
-    requires classes { length plan.now.classes ≡ length old.now.classes }
-    requires network { IsNetFor B.meaning rules.now.defs old.now net.old }
+    requires from { HasTurned B.meaning rules.now.defs net.old keys.now plan.now }
     requires rest { is_open net.old ≡ false }
     ensures network { OnOk result (IsNetFor B.meaning rules.now.defs plan.now net.new) }
-    ensures stays { OnErr result (IsNetFor B.meaning rules.now.defs old.now net.new) }
+    ensures stays { OnErr result ((old : PlanView) → IsNetFor B.meaning rules.now.defs old net.old
+        → IsNetFor B.meaning rules.now.defs old net.new) }
     ensures rest { is_open net.new ≡ false }
     ensures score { IfOk result (λ score. score ≡ whole_score B.meaning rules.now.defs weights.now plan.now) }
 {
-    let keys = keys_of_both(alloc, old, plan)?;
     net.begin();
-    match turned(alloc, net, rules, plan, &keys, weights, steps) {
+    match turned(alloc, net, rules, plan, keys, weights, steps) {
         Ok(score) => {
             net.commit();
             Ok(score)

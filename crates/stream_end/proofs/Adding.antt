@@ -1,16 +1,18 @@
 -- The weights of rows that go are taken off, and those of rows that come are added, one after the other.
-use Rattle.std.proofs.Common.{◌≡◌, ◌<◌, ◌+◌, ◌-◌, ◌∙◌, ℕ, ℤ, List, [], ◌∷◌, ◌++◌, get_or, length, take, ap, sym, subst, append_assoc, arith}
+use Rattle.std.proofs.Common.{◌≡◌, ◌<◌, ◌+◌, ◌-◌, ◌∙◌, ℕ, ℤ, List, [], ◌∷◌, ◌++◌, None, get_or, length, take, ap, refl, sym, subst, append_assoc, arith}
 use Rattle.std.specs.Prelude.{All}
 use Rattle.std.proofs.lemmas.List.{map-append, take_more}
 use Rattle.std.proofs.lemmas.List.Elements.{All-append}
-use Rattle.std.proofs.lemmas.List.Sums.{sum_by-append}
+use Rattle.std.proofs.lemmas.List.Sums.{sum_by-append, sum_by-cons}
+use Rattle.plan_rules.specs.Meaning.{Meaning}
 use Rattle.stream_heads.specs.declared.cells.Cell.{Cell}
 use Rattle.stream_heads.specs.declared.member.Member.{Member}
 use Rattle.stream_heads.specs.Bags.{IsPartOf}
+use Rattle.stream_heads.specs.Meant.{Rows}
 use Rattle.stream_heads.specs.Sides.{all_numbered, numbered}
 use Rattle.stream_end.specs.declared.ahead.EndAhead.{EndAhead}
-use Rattle.stream_end.specs.Found.{TakesOff, Weighs}
-use Rattle.stream_end.specs.Weights.{IsWeight, clipped, kept_sum, weight_in}
+use Rattle.stream_end.specs.Found.{TakesOff, TakesOffWeighed, Weighs}
+use Rattle.stream_end.specs.Weights.{IsWeight, clipped, kept_sum, weight_in, weights_at}
 
 front_part : {X : Type 0} (xs ys zs : List X) → IsPartOf (xs ++ ys) zs → IsPartOf xs zs
 front_part xs ys zs part = record { sums = λ f. let a = part.sums f in omega (arith, a, sum_by-append f xs ys) }
@@ -58,3 +60,16 @@ pub weighs_more : (weights : List Cell → List ℤ) (come : List (List Cell)) (
     → Weighs weights (take i come) a b → Weighs weights (x ∷ []) b c → Weighs weights (take (i + 1) come) a c
 weighs_more weights come i x a b c within is one other =
     subst (λ (rows : List (List Cell)). Weighs weights rows a c) (ap (λ (y : List Cell). take i come ++ y ∷ []) is ∙ sym (take_more come i x within)) (weighs_on weights (take i come) (x ∷ []) a b c one other)
+
+-- rows that nothing weighs weigh 1 each
+pub kept_ones : (m : Meaning) (heads : Rows) (rows : List (List Cell)) → kept_sum (all_numbered (weights_at m heads None) rows) ≡ length rows
+kept_ones m heads [] = refl
+kept_ones m heads (row ∷ rows) =
+    let weights = weights_at m heads None in
+    let rest = kept_ones m heads rows in
+    let more : kept_sum (all_numbered weights (row ∷ rows)) ≡ 1 + kept_sum (all_numbered weights rows) = sum_by-cons weight_in (numbered weights row) (all_numbered weights rows) in
+    omega (arith, rest, more)
+
+-- where nothing weighs the rows, as much was taken off as rows went
+pub ones_off : (members : List Member) (gone : List (List Cell)) (before after : ℕ) → after ≡ before - length gone → TakesOffWeighed None members gone before after
+ones_off members gone before after is = λ m heads all part. let ones = kept_ones m heads gone in omega (arith, is, ones)

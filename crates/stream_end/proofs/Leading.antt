@@ -19,7 +19,7 @@ use Rattle.stream_heads.specs.Standing.{TakesIn, Under}
 use Rattle.stream_heads.proofs.SideLaws.{all_part}
 use Rattle.stream_end.specs.declared.ahead.EndAhead.{EndAhead}
 use Rattle.stream_end.specs.Ends.{EndLeads, IsFound, IsWeighed}
-use Rattle.stream_end.specs.Found.{TakesOff, Weighs}
+use Rattle.stream_end.specs.Found.{TakesOffBy, Weighs}
 use Rattle.stream_end.specs.Weights.{IsWeight, clipped, kept_sum, weight_in, weight_sum, weights_at}
 
 -- rows with their numbers, as they are
@@ -74,13 +74,13 @@ sum_fits members all few = let a = sum_by-le weight_in (2 ^ 32 - 1) members (all
 
 -- what a change leads to was found
 pub foreseen : (m : Meaning) (heads : Rows) (weigher : Option ℕ) (rows : List (List Cell)) (left : CellsDelta) (later : List (List Cell)) (kept : List Member) (total without : ℕ) (before after : EndAhead)
-    → IsWeighed m heads weigher rows kept total → EndLeads rows left later → TakesOff kept left.gone.items total without → before.total ≡ without → Weighs (weights_at m heads weigher) left.come.items before after
+    → IsWeighed m heads weigher rows kept total → EndLeads rows left later → TakesOffBy (weights_at m heads weigher) kept left.gone.items total without → before.total ≡ without → Weighs (weights_at m heads weigher) left.come.items before after
     → after.total ≡ weight_sum m heads weigher later
 foreseen m heads weigher rows left later kept total without before after stands leads takes starts weighs =
     let weights = weights_at m heads weigher in
     let gone = left.gone.items in
     let come = left.come.items in
-    let less = takes weights (kept_numbered weights rows kept stands.members) (gone_part weights rows gone kept stands.members leads.exact.there) in
+    let less = takes (kept_numbered weights rows kept stands.members) (gone_part weights rows gone kept stands.members leads.exact.there) in
     let both = led_sums weights rows gone come later kept stands.members leads.exact weight_in in
     let there = (gone_part weights rows gone kept stands.members leads.exact.there).sums weight_in in
     let own : total ≡ kept_sum kept = stands.sum ∙ sym (kept_weights m heads weigher rows) ∙ sym (stands.members.sums weight_in) in

@@ -1,7 +1,8 @@
 -- What was found of rows that go and come.
-use Rattle.std.specs.Prelude.{◌≡◌, ◌+◌, ◌-◌, ◌++◌, ℕ, ℤ, All, List, map}
+use Rattle.std.specs.Prelude.{◌≡◌, ◌+◌, ◌-◌, ◌++◌, ℕ, ℤ, All, List, Option, map}
 use Rattle.std.specs.List.{filter_map}
 use Rattle.std.specs.FinMap as finmap
+use Rattle.plan_rules.specs.Meaning.{Meaning}
 use Rattle.plan_rules.specs.declared.row.Part.{Part}
 use Rattle.stream_heads.specs.declared.cells.Cell.{Cell}
 use Rattle.stream_heads.specs.declared.member.Member.{Member}
@@ -10,13 +11,22 @@ use Rattle.stream_heads.specs.Meant.{Rows, row_at}
 use Rattle.stream_heads.specs.Sides.{IsNumbered, all_numbered}
 use Rattle.stream_heads.specs.Standing.{Under}
 use Rattle.stream_end.specs.declared.ahead.EndAhead.{EndAhead}
-use Rattle.stream_end.specs.Weights.{IsWeight, clipped, kept_sum}
+use Rattle.stream_end.specs.Weights.{IsWeight, clipped, kept_sum, weights_at}
 
--- where each row stood with the weight that it has, what rows weigh that are there was taken off
-abbrev pub TakesOff : List Member → List (List Cell) → ℕ → ℕ → Type 0
-TakesOff members gone before after =
-    (weights : List Cell → List ℤ) → All (IsNumbered weights) members → IsPartOf (all_numbered weights gone) members
+-- where each row stood with this weight, what rows weigh that are there was taken off
+abbrev pub TakesOffBy : (List Cell → List ℤ) → List Member → List (List Cell) → ℕ → ℕ → Type 0
+TakesOffBy weights members gone before after =
+    All (IsNumbered weights) members → IsPartOf (all_numbered weights gone) members
     → after ≡ before - kept_sum (all_numbered weights gone)
+
+-- the same, whatever the weights
+abbrev pub TakesOff : List Member → List (List Cell) → ℕ → ℕ → Type 0
+TakesOff members gone before after = (weights : List Cell → List ℤ) → TakesOffBy weights members gone before after
+
+-- the same, where the weights are those that a weigher gives, or 1 where there is none
+abbrev pub TakesOffWeighed : Option ℕ → List Member → List (List Cell) → ℕ → ℕ → Type 0
+TakesOffWeighed weigher members gone before after =
+    (m : Meaning) (heads : Rows) → TakesOffBy (weights_at m heads weigher) members gone before after
 
 -- rows that come were weighed, noted with their weights, and these added
 pub record Weighs (weights : List Cell → List ℤ) (come : List (List Cell)) (before after : EndAhead) : Type 0 where

@@ -2,7 +2,8 @@
 ghost use Rattle.std.specs.Prelude.{◌≡◌, ◌≤◌, ◌++◌, ◌∷◌, [], IfOk, OnOk, IsSortedBy, filter, length, map, take};
 ghost use Rattle.std.specs.FinMap as map;
 ghost use Rattle.std.specs.List.{filter_map};
-ghost use Rattle.stream_heads.specs.Sides.{members_of};
+ghost use Rattle.stream_heads.specs.Sides.{first_numbers, members_of};
+ghost use Rattle.stream_heads.specs.Standing.{AreAt};
 ghost use Rattle.stream_group.specs.Keyed.{IsRun, changed, is_before, numbers_coming, numbers_staying, under};
 ghost use Rattle.stream_group.specs.Tally.{TalliesMore};
 ghost use Rattle.stream_group.specs.Turns.{MakesUnder, TurnsAll, TurnsKey, group_cells, rows_of_key, unless_same};
@@ -79,20 +80,19 @@ fn tally_place(
     Ok(())
 }
 
-/// Takes the collected numbers of the rows under a key that stay.
+/// Takes the collected numbers of the rows at these places that stay.
 fn tally_kept(
     members: &Side,
-    key: &Key,
+    places: &[u64],
     run: &[Change],
     width: usize,
     tally: &mut Tally,
 ) -> Result<(), Memory>
-    requires { members.now.width ≡ width }
-    ensures tallies { let kept = under width (take width key.now) (members_of members.now) in
-        OnOk result (TalliesMore tally.old tally.new (numbers_staying width run.now kept)) }
+    ensures tallies { let there = filter_map (map.get members.now.rows.now) places.now in
+        OnOk result (TalliesMore tally.old tally.new (numbers_staying width run.now there)) }
     ensures collect { tally.new.collect ≡ tally.old.collect }
 {
-    for place in members.under(key) {
+    for place in places {
         tally_place(members, *place, run, width, tally)?;
     }
     Ok(())
@@ -120,22 +120,25 @@ fn tally_come(run: &[Change], width: usize, tally: &mut Tally) -> Result<(), Mem
     Ok(())
 }
 
-/// What is made of the rows under a key once the changes of a run are done.
+/// What is made of the rows under a key, which stand at these places, once the changes of a run are done.
 fn made_after(
     by: &Grouping,
     members: &Side,
     key: &Key,
+    places: &[u64],
     run: &[Change],
     tally: &mut Tally,
 ) -> Result<Option<i64>, Memory>
     requires width { members.now.width ≡ length by.now.keys }
+    requires there { let width = members.now.width in
+        AreAt (first_numbers width) (take width key.now) members.now.rows.now places.now }
     requires run { IsRun (length by.now.keys) key.now run.now }
     ensures { let later = changed run.now (members_of members.now) in
         IfOk result (λ made. MakesUnder by.now later (take (length by.now.keys) key.now) made) }
 {
     let width = by.keys.len();
     tally.restart(by.collect);
-    tally_kept(members, key, run, width, tally)?;
+    tally_kept(members, places, run, width, tally)?;
     tally_come(run, width, tally)?;
     Ok(tally.made)
 }
@@ -155,8 +158,9 @@ fn turn(
     ensures { let kept = members_of members.now in
         OnOk result (TurnsKey by.now kept run.now (take (length by.now.keys) key.now) out.old out.new) }
 {
-    let before = made_after(by, members, key, &[], tally)?;
-    let after = made_after(by, members, key, run, tally)?;
+    let places = members.under(key);
+    let before = made_after(by, members, key, places, &[], tally)?;
+    let after = made_after(by, members, key, places, run, tally)?;
     push_turn(first(key, by.keys.len()), before, after, out)?;
     Ok(())
 }

@@ -8,6 +8,6 @@ use Rattle.stream_group.proofs.turn.tally_kept.Given as goal
 -- the numbers of the rows at the places so far that stay were taken
 abbrev pub invariant-loop-place : goal.invariant-loop-place
 invariant-loop-place l = record {
-  tallies : TalliesMore l.initial.tally l.tally (numbers_staying l.width l.run (filter_map (map.get l.members.rows.now) (take l.place-index l.place-items)));
+  tallies : TalliesMore l.initial.tally l.tally (numbers_staying l.width l.run (filter_map (map.get l.members.rows.now) (take l.place-index l.places)));
   collect : l.tally.collect ≡ l.initial.tally.collect;
 }

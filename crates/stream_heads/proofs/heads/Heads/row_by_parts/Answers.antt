@@ -3,7 +3,7 @@ use Rattle.plan_rules.specs.declared.row.Part.{Part}
 use Rattle.tuple_store.specs.View.{StoreView}
 use Rattle.stream_heads.specs.Meant.{AreHeads}
 use Rattle.stream_heads.proofs.HeadLaws.{few_more, parts_more}
-use Rattle.stream_heads.proofs.heads.Heads.row.Goals as goal
+use Rattle.stream_heads.proofs.heads.Heads.row_by_parts.Goals as goal
 
 pub loop-cell-preserved : goal.loop-cell-preserved
 loop-cell-preserved c = record {

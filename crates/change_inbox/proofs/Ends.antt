@@ -1,5 +1,5 @@
 -- The rule when an inbox is opened, and what it tells when it is closed.
-use Rattle.std.proofs.Common.{◌≡◌, ◌≢◌, ℕ, zero, suc, ◌+◌, ◌-◌, ◌<◌, ◌≤◌, cond, nat_eq, ◌==◌, List, [], ◌∷◌, ◌++◌, length, get_or, map, Some, slice_get, All, Bool, true, false, true≢false, refl, sym, ap, ◌∙◌, subst, ⊎_elim, inl, length-append, arith}
+use Rattle.std.proofs.Common.{◌≡◌, ◌≢◌, ℕ, zero, suc, ◌+◌, ◌-◌, ◌<◌, ◌≤◌, cond, nat_eq, ◌==◌, List, [], ◌∷◌, ◌++◌, length, get_or, map, Some, slice_get, All, Bool, true, false, true≢false, refl, sym, ap, ◌∙◌, subst, ◌⊎◌, ⊎_elim, inl, inr, length-append, arith}
 use Rattle.std.specs.Prelude.{Any}
 use Rattle.std.proofs.lemmas.Bool.Decides.{nat_tests}
 use mathlib.Core.Option.{some, none, some-ne-none, some-injective}
@@ -14,8 +14,8 @@ use Rattle.change_inbox.specs.declared.knowledge.Limits.{Limits}
 use Rattle.change_inbox.specs.declared.entry.Entry.{Entry}
 use Rattle.change_inbox.specs.Entries.{seat_of, by_seat}
 use Rattle.change_inbox.specs.Books.{BookView}
-use Rattle.change_inbox.specs.Seats.{SeatView, own_of}
-use Rattle.change_inbox.specs.Law.{member, holders, unseated, holding, at_rest, without_first, first_alone, opener, total, AllKnow, Fits, IsSeat, Law}
+use Rattle.change_inbox.specs.Seats.{InboxView, SeatView, own_of}
+use Rattle.change_inbox.specs.Law.{member, holders, unseated, holding, at_rest, without_first, first_alone, gathered, opener, total, AllKnow, Fits, IsSeat, IsSettled, Law}
 use Rattle.change_inbox.proofs.BySeat.{prefix_none, lawful_none}
 use Rattle.change_inbox.proofs.Calls.{shown}
 use Rattle.change_inbox.proofs.Views.{total_of_one, total-two}
@@ -84,12 +84,6 @@ module _ {T : Type 0} where
       }
       one (suc j) v e = absurd (some-ne-none v (sym e))
 
-  -- whoever has all parts knows the journal of all members
-  pub record Settled (limits : Limits) (members : List (Member T)) (book : BookView T) : Type 0 where
-    pub knows : AllKnow limits book.entries members
-    pub others : (m : ℕ) → holders m members ≡ 0 → by_seat m book.entries ≡ []
-    pub same_limits : book.limits ≡ limits
-
   no_members : (v : Knowledge T) (m : ℕ) → length v.members ≤ v.parts → v.parts ≡ 0 → holders m v.members ≡ 0
   no_members v m le z = nothing v.members (omega arith)
     where
@@ -97,15 +91,16 @@ module _ {T : Type 0} where
       nothing [] e = refl
       nothing (x ∷ xs) e = absurd (omega arith)
 
+  -- whoever has all parts knows the journal of all members
   pub settles : (limits : Limits) (s : State (BookView T) (Knowledge T)) (id : ℕ) (v : Knowledge T) → Law limits s → get_elem? s.views id ≡ some v → v.parts ≡ limits.seats → v.has ≡ false → 0 < v.parts
-      → (y : BookView T) × (get_elem? s.homes 0 ≡ some (some y)) × Settled limits v.members y
+      → (y : BookView T) × (get_elem? s.homes 0 ≡ some (some y)) × IsSettled limits v.members y.entries × (y.limits ≡ limits)
   settles limits s id v h at all hasnot some_parts =
       let journal = h.journal in
       let alone : (m : ℕ) → total (λ u. holders m u.members) s.views ≡ holders m v.members =
       (λ m. let p = h.parts in total_of_one (λ u. holders m u.members) (λ u. u.parts) s.views id v at (omega arith) (λ j u a z. no_members u m (h.each j u a).sized z)) in
       ⊎_elim
       (λ (t : (y : BookView T) × (s.homes ≡ some y ∷ []) × (y.entries ≡ h.journal) × (y.limits ≡ limits)).
-      (t.0, ap (λ l. get_elem? l 0) t.1, record { knows = rw t.2 (h.each id v at).members; others = (λ m z. ap (by_seat m) t.2 ∙ h.others m (alone m ∙ z)); same_limits = t.3 }))
+      (t.0, ap (λ l. get_elem? l 0) t.1, record { knows = rw t.2 (h.each id v at).members; others = (λ m z. ap (by_seat m) t.2 ∙ h.others m (alone m ∙ z)) }, t.3))
       (λ (t : (j : ℕ) × (u : Knowledge T) × (get_elem? s.views j ≡ some u) × (u.has ≡ true) × (s.homes ≡ none ∷ [])).
       let f = h.each t.0 t.1 t.2 in
       let waits = (f.held t.3).0 in
@@ -117,11 +112,11 @@ module _ {T : Type 0} where
 
   -- what is taken out of the closed table
   pub taken : (limits : Limits) (id : ℕ) (v : Knowledge T) (ws : List ℕ) (books : List (BookView T)) (book : BookView T) → Final (Seen (Law limits) id v) ws books → get_elem? books 0 ≡ some book
-      → v.parts ≡ limits.seats → v.has ≡ false → 0 < v.parts → Settled limits v.members book
+      → v.parts ≡ limits.seats → v.has ≡ false → 0 < v.parts → IsSettled limits v.members book.entries × (book.limits ≡ limits)
   taken limits id v ws books book f at all hasnot some_parts =
       let t = settles limits f.0 id v f.1.0 f.1.1 all hasnot some_parts in
       let same : t.0 ≡ book = some-injective t.0 book (sym (f.4 0 t.0 t.1) ∙ at) in
-      subst (λ (b : BookView T). Settled limits v.members b) same t.2
+      subst (λ (b : BookView T). IsSettled limits v.members b.entries × (b.limits ≡ limits)) same (t.2, t.3)
 
   -- what a seat stands for
   abbrev pub member_of : SeatView T → Member T
@@ -131,21 +126,39 @@ module _ {T : Type 0} where
   members-snoc [] s ms = refl
   members-snoc (x ∷ xs) s ms = ap (λ l. member_of x ∷ l) (members-snoc xs s ms)
 
-  -- what is taken out, where no seat is left
-  pub closed_with : (limits : Limits) (id : ℕ) (v : Knowledge T) (ws : List ℕ) (books : List (BookView T)) (book : BookView T) (left seats : List (SeatView T)) → Final (Seen (Law limits) id v) ws books → get_elem? books 0 ≡ some book
-      → left ≡ [] → v.parts + length left ≡ limits.seats → v.has ≡ false → 0 < v.parts → map member_of left ++ v.members ≡ map member_of seats → Settled limits (map member_of seats) book
-  closed_with limits id v ws books book left seats f at nobody all hasnot some_parts members =
-      let empty = ap length nobody in
-      let same = sym (ap (λ l. map member_of l ++ v.members) nobody) ∙ members in
-      subst (λ (ms : List (Member T)). Settled limits ms book) same (taken limits id v ws books book f at (omega arith) hasnot some_parts)
+  -- a seat holds itself, as one part of its inbox
+  pub seat_holds : (t : TableId) (me : Me (BookView T) (Knowledge T)) (number posts : ℕ) (old : SeatView T) (inbox : InboxView) → shown t me number ≡ old → IsSeat me number posts → old.inbox ≡ inbox
+      → me ≡ (holding inbox.limits 1 (member_of old ∷ []), [])
+  seat_holds t me number posts old inbox view seat own =
+      seat.rests
+      ∙ (ap (λ (o : SeatView T). (holding o.inbox.limits 1 (member_of o ∷ []), [])) view
+      ∙ ap (λ (i : InboxView). (holding i.limits 1 (member_of old ∷ []), [])) own)
 
-  -- a seat stands for itself
-  pub seat_members : (t : TableId) (me : Me (BookView T) (Knowledge T)) (number posts : ℕ) (old : SeatView T) → shown t me number ≡ old → IsSeat me number posts → me.0.members ≡ member_of old ∷ []
-  seat_members t me number posts old view seat = ap (λ m. m.0.members) seat.rests ∙ ap (λ o. member_of o ∷ []) view
+  -- whoever takes a seat holds one part more
+  pub holds_more : (limits k : Limits) (me other new : Me (BookView T) (Knowledge T)) (x : Member T) → me ≡ (holding limits me.0.parts me.0.members, []) → other ≡ (holding k 1 (x ∷ []), []) → new ≡ (gathered me.0 other.0, me.1)
+      → new ≡ (holding limits (me.0.parts + 1) (x ∷ me.0.members), [])
+  holds_more limits k me other new x holds seat took =
+      took
+      ∙ (ap (λ (m : Me (BookView T) (Knowledge T)). (gathered m.0 other.0, m.1)) holds
+      ∙ ap (λ (o : Me (BookView T) (Knowledge T)). (gathered (holding limits me.0.parts me.0.members) o.0, [])) seat)
 
-  -- who holds some members holds just them
-  pub holds_itself : (me : Me (BookView T) (Knowledge T)) (l : Limits) (parts : ℕ) (xs : List (Member T)) → me ≡ (holding l parts xs, []) → me ≡ (holding me.0.limits me.0.parts me.0.members, [])
-  holds_itself me l parts xs is = subst (λ (m : Me (BookView T) (Knowledge T)). m ≡ (holding m.0.limits m.0.parts m.0.members, [])) (sym is) refl
+  -- whoever holds some members holds just them
+  pub holds_itself : (me : Me (BookView T) (Knowledge T)) (l : Limits) (parts : ℕ) (xs : List (Member T)) → me ≡ (holding l parts xs, []) → me ≡ (holding l me.0.parts me.0.members, [])
+  holds_itself me l parts xs is = subst (λ (m : Me (BookView T) (Knowledge T)). m ≡ (holding l m.0.parts m.0.members, [])) (sym is) refl
+
+  -- and so many parts
+  pub holds_parts : (me : Me (BookView T) (Knowledge T)) (l : Limits) (parts : ℕ) → me ≡ (holding l me.0.parts me.0.members, []) → me.0.parts ≡ parts → me ≡ (holding l parts me.0.members, [])
+  holds_parts me l parts is same = is ∙ ap (λ n. (holding l n me.0.members, [])) same
+
+  -- whoever takes the first of two seats to the last holds both
+  pub holds_both : (t : TableId) (me all : Me (BookView T) (Knowledge T)) (number posts : ℕ) (one two : SeatView T) (inbox : InboxView) → shown t me number ≡ two → IsSeat me number posts → two.inbox ≡ inbox
+      → all ≡ (holding inbox.limits (me.0.parts + 1) (member_of one ∷ me.0.members), []) → all ≡ (holding inbox.limits 2 (member_of one ∷ member_of two ∷ []), [])
+  holds_both t me all number posts one two inbox view seat own took =
+      took ∙ ap (λ (m : Me (BookView T) (Knowledge T)). (holding inbox.limits (m.0.parts + 1) (member_of one ∷ m.0.members), [])) (seat_holds t me number posts two inbox view seat own)
+
+  -- what is settled for whoever holds all is settled for these members
+  pub settled_for : (limits : Limits) (journal : List (Entry T)) (me : Me (BookView T) (Knowledge T)) (parts : ℕ) (xs : List (Member T)) → me ≡ (holding limits parts xs, []) → IsSettled limits me.0.members journal → IsSettled limits xs journal
+  settled_for limits journal me parts xs is settled = subst (λ (ms : List (Member T)). IsSettled limits ms journal) (ap (λ (m : Me (BookView T) (Knowledge T)). m.0.members) is) settled
 
   pub seats_begun : (limits : Limits) (journal : List (Entry T)) (seats : List (SeatView T)) → AllKnow limits journal (map member_of seats) → All (λ s. IsPrefix s.seen journal) seats
   seats_begun limits journal [] h k d lt = absurd (omega arith)
@@ -183,12 +196,24 @@ module _ {T : Type 0} where
       rest true x l e = absurd (cc)
       rest false x l e = e
 
-  pub seats_all : (limits : Limits) (book : BookView T) (seats : List (SeatView T)) → Settled limits (map member_of seats) book → All (λ e. Any (λ s. s.number ≡ seat_of e) seats) book.entries
-  seats_all limits book seats h k d lt =
-      number_of_seat (seat_of (get_or book.entries k d)) seats (some_holder (holders (seat_of (get_or book.entries k d)) (map member_of seats)) (λ z. stands book.entries k d lt (h.others (seat_of (get_or book.entries k d)) z)))
+  pub seats_all : (limits : Limits) (journal : List (Entry T)) (seats : List (SeatView T)) → IsSettled limits (map member_of seats) journal → All (λ e. Any (λ s. s.number ≡ seat_of e) seats) journal
+  seats_all limits journal seats h k d lt =
+      number_of_seat (seat_of (get_or journal k d)) seats (some_holder (holders (seat_of (get_or journal k d)) (map member_of seats)) (λ z. stands journal k d lt (h.others (seat_of (get_or journal k d)) z)))
     where
       some_holder : (n : ℕ) → n ≢ 0 → 0 < n
       some_holder n ne = omega arith
+
+  -- a seat of two is the first or the last
+  one_of_two : (one two x : SeatView T) (n k : ℕ) → k < 2 → get_or (one ∷ two ∷ []) k x ≡ x → x.number ≡ n → (n ≡ one.number) ⊎ (n ≡ two.number)
+  one_of_two one two x n zero lt at is = inl (sym is ∙ ap (λ (s : SeatView T). s.number) (sym at))
+  one_of_two one two x n (suc zero) lt at is = inr (sym is ∙ ap (λ (s : SeatView T). s.number) (sym at))
+  one_of_two one two x n (suc (suc k)) lt at is = absurd (omega arith)
+
+  -- each entry is of one of two seats
+  pub both_all : (limits : Limits) (journal : List (Entry T)) (one two : SeatView T) → IsSettled limits (member_of one ∷ member_of two ∷ []) journal → All (λ e. (seat_of e ≡ one.number) ⊎ (seat_of e ≡ two.number)) journal
+  both_all limits journal one two h k d lt =
+      let seat = seats_all limits journal (one ∷ two ∷ []) h k d lt in
+      one_of_two one two seat.1 (seat_of (get_or journal k d)) seat.0 seat.2 seat.3 seat.4
 
 -- one member is dealt out of those that have none
 abbrev pub undealt : Limits → ℕ → (T : Type 0) → Knowledge T

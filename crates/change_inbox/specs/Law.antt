@@ -124,6 +124,11 @@ module _ {T : Type 0} where
   AllKnow limits journal [] = Unit {0}
   AllKnow limits journal (x ∷ xs) = Knows limits journal x × AllKnow limits journal xs
 
+  -- these members know the journal, and no other numbers have entries in it
+  pub record IsSettled (limits : Limits) (members : List (Member T)) (journal : List (Entry T)) : Type 0 where
+    pub knows : AllKnow limits journal members
+    pub others : (m : ℕ) → holders m members ≡ 0 → by_seat m journal ≡ []
+
   -- what the rule says of one view, the tickets from turn on and below next being out
   pub record Fits (limits : Limits) (journal : List (Entry T)) (turn next : ℕ) (v : Knowledge T) : Type 0 where
     pub known : 0 < v.parts → v.limits ≡ limits

@@ -32,12 +32,12 @@ impl<T: Kept> Model for Inbox<T> {
 }
 
 impl<T: Kept> Inbox<T> {
-    ghost use Rattle.std.specs.Prelude.{◌≡◌, ℕ, ◌+◌, ◌<◌, ◌≤◌, ◌%◌, ◌∷◌, ◌++◌, [], List, length, slice_get, IfOk, All, Any};
+    ghost use Rattle.std.specs.Prelude.{◌≡◌, ℕ, ◌+◌, ◌<◌, ◌≤◌, ◌%◌, ◌⊎◌, ◌∷◌, ◌++◌, [], List, length, slice_get, IfOk, All, Any};
     ghost use mathlib.Core.List.{IsPrefix};
     ghost use Rattle.change_inbox.specs.Entries.{seat_of, by_seat, posts_in, cuts_in, shuts_in};
     ghost use Rattle.change_inbox.specs.Books.{BookView, cut, shut};
     ghost use Rattle.change_inbox.specs.Seats.{own_of, saw, AreFresh, GoesOn, Answers};
-    ghost use Rattle.change_inbox.specs.Law.{Rests, IsInside, Finds, Grows, at_rest, number_of, seen_of};
+    ghost use Rattle.change_inbox.specs.Law.{Rests, IsInside, IsSettled, Finds, Grows, at_rest, holding, member, number_of, seen_of};
 
     /// An inbox with these seats, numbered from 0, with room for so many posts and cuts.
     pub fn open(
@@ -191,6 +191,38 @@ impl<T: Kept> Inbox<T> {
         self.table.shared.load::<Compare>(&mut seat.token, 1);
     }
 
+    // Whoever holds some seats then holds this one too.
+    fn gather(&self, all: &mut Token<T>, seat: Seat<T>)
+        requires own { (all.old.table_id ≡ self.now.table) × (seat.inbox ≡ self.now) }
+        requires holds { all.old.me
+            ≡ (holding self.now.limits all.old.me.0.parts all.old.me.0.members, []) }
+        requires some { 0 < all.old.me.0.parts }
+        ensures own { all.new.table_id ≡ self.now.table }
+        ensures holds { let members = member seat.number seat.seen ∷ all.old.me.0.members in
+            all.new.me ≡ (holding self.now.limits (all.old.me.0.parts + 1) members, []) }
+    {
+        let Seat {
+            token,
+            number: _,
+            posts: _,
+        } = seat;
+        self.table.shared.join_seat::<Gather>(all, token);
+    }
+
+    // The whole journal, for whoever holds all seats.
+    fn journal_of(self, all: Token<T>) -> Journal<T>
+        requires own { all.table_id ≡ self.table }
+        requires holds { all.me ≡ (holding self.limits self.limits.seats all.me.0.members, []) }
+        ensures settled { IsSettled self.limits all.me.0.members result }
+        ensures few { length (posts_in result) ≤ self.limits.posts }
+    {
+        let Inbox { table, alloc: _ } = self;
+        let mut closed = table.close_with(all);
+        let book = closed.take(0);
+        closed.free();
+        book.into_journal()
+    }
+
     /// The whole journal. It begins with what each seat has seen, its entries under the number of a seat are that
     /// seat's own, and it has no others.
     pub fn close(self, mut seats: List<Seat<T>>) -> Journal<T>
@@ -200,7 +232,7 @@ impl<T: Kept> Inbox<T> {
         ensures others { All (λ e. Any (λ s. s.number ≡ seat_of e) seats) result }
         ensures few { length (posts_in result) ≤ self.limits.posts }
     {
-        let Inbox { table, alloc: _ } = self;
+        let _ = &self.table;
         let Some(first) = seats.pop() else {
             unreachable!()
         };
@@ -210,16 +242,26 @@ impl<T: Kept> Inbox<T> {
             posts: _,
         } = first;
         while let Some(seat) = seats.pop() {
-            let Seat {
-                token,
-                number: _,
-                posts: _,
-            } = seat;
-            table.shared.join_seat::<Gather>(&mut all, token);
+            self.gather(&mut all, seat);
         }
-        let mut closed = table.close_with(all);
-        let book = closed.take(0);
-        closed.free();
-        book.into_journal()
+        self.journal_of(all)
+    }
+
+    /// The whole journal of an inbox with two seats, as by `close`. It takes no memory.
+    pub fn close_both(self, first: Seat<T>, last: Seat<T>) -> Journal<T>
+        requires two { self.limits.seats ≡ 2 }
+        requires own { (first.inbox ≡ self) × (last.inbox ≡ self) }
+        ensures seen { IsPrefix first.seen result × IsPrefix last.seen result }
+        ensures own { (by_seat first.number result ≡ own_of first) × (by_seat last.number result ≡ own_of last) }
+        ensures others { All (λ e. (seat_of e ≡ first.number) ⊎ (seat_of e ≡ last.number)) result }
+        ensures few { length (posts_in result) ≤ self.limits.posts }
+    {
+        let Seat {
+            token: mut both,
+            number: _,
+            posts: _,
+        } = last;
+        self.gather(&mut both, first);
+        self.journal_of(both)
     }
 }

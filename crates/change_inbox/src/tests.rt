@@ -73,6 +73,20 @@ fn a_journal_of_one_post(rt: HostRuntime) -> Result<(), Fail> {
     Ok(())
 }
 
+#[test]
+fn two_seats_close_without_a_list(rt: HostRuntime) -> Result<(), Fail> {
+    let (inbox, mut seats) = Inbox::<Word>::open(rt.alloc(), 2, 1, 1)?;
+    let (Some(mut q), Some(mut p)) = (seats.pop(), seats.pop()) else {
+        panic!(rt; "there are two seats")
+    };
+    assert!(rt; answer(inbox.post(&rt, &mut p, Word(7))) == [0, 0]);
+    assert!(rt; inbox.cut(&rt, &mut q, 0) == 1);
+    inbox.shut(&rt, &mut q);
+    let journal = inbox.close_both(p, q);
+    assert!(rt; wrong_entry(&journal, POST_CUT_SHUT) == None);
+    Ok(())
+}
+
 // Posts each word twice, 500 posts in all.
 fn post_all<W: Wait>(rt: &W, inbox: &Inbox<Word>, mut seat: Seat<Word>) -> Seat<Word>
     requires { seat.inbox ≡ inbox.now }

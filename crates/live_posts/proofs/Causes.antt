@@ -1,5 +1,5 @@
 -- Why a feeder ended.
-use Rattle.std.proofs.Common.{◌≡◌, ◌≢◌, ◌∙◌, ℕ, ◌<◌, ◌≤◌, ◌-◌, ◌^◌, ◌⊎◌, inl, inr, true, false, refl, sym, ap, arith}
+use Rattle.std.proofs.Common.{◌≡◌, ◌≢◌, ◌∙◌, ℕ, ◌≤◌, inl, inr, true, false, refl, sym, ap, arith}
 use Rattle.plan_changes.specs.declared.line.StopCause.{StopCause}
 use Rattle.plan_changes.specs.declared.line.StopCause.TheVariants as cause
 use Rattle.plan_ports.specs.Outside.{Rose}

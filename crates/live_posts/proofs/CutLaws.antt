@@ -1,16 +1,13 @@
 -- What cuts take, and what waits behind the last one.
-use Rattle.std.proofs.Common.{◌≡◌, ◌∙◌, ℕ, suc, ◌+◌, ◌-◌, ◌==◌, ◌||◌, cond, List, [], ◌∷◌, ◌++◌, length, drop, Bool, true, false, refl, sym, ap, append_assoc, append-nil, length-append, arith}
-use Rattle.std.specs.Prelude.{filter}
+use Rattle.std.proofs.Common.{◌≡◌, ◌∙◌, ℕ, ◌==◌, ◌||◌, cond, List, [], ◌∷◌, ◌++◌, length, drop, Bool, true, false, refl, sym, ap, append_assoc, append-nil, arith}
 use Rattle.std.proofs.lemmas.List.{append_cancel_left, drop_at, nil_from_length}
 use Rattle.std.proofs.lemmas.List.Elements.{filter-append}
 use mathlib.Core.List.{IsPrefix}
 use Rattle.change_inbox.specs.declared.entry.Entry.{Entry}
 use Rattle.change_inbox.specs.declared.entry.Entry.TheVariants.{Post, Cut, Shut}
 use Rattle.change_inbox.specs.Entries.{seat_of, by_seat, posts_in, cuts_in}
-use Rattle.change_inbox.specs.Seats.{SeatView, GoesOn, own_of}
 use Rattle.change_inbox.proofs.BySeat.{by_seat-append}
-use Rattle.change_inbox.proofs.EntryLists.{posts_in-append}
-use Rattle.live_posts.specs.Cuts.{Take, take_at, takes_after, takes, posts_taken, is_post, posts_and_own, taken_by}
+use Rattle.live_posts.specs.Cuts.{take_at, takes_after, takes, posts_taken, is_post, posts_and_own}
 
 module _ {T : Type 0} where
   -- what waits behind the last cut, where these posts wait before the entries

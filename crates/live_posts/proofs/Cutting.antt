@@ -1,7 +1,6 @@
 -- What a cut, a shut and a look leave of what a seat took.
-use Rattle.std.proofs.Common.{◌≡◌, ◌∙◌, ◌≤◌, ◌+◌, ℕ, ◌==◌, ◌||◌, List, [], ◌∷◌, ◌++◌, length, drop, refl, sym, ap, append-nil, append_assoc, length-append, arith}
+use Rattle.std.proofs.Common.{◌≡◌, ◌∙◌, ◌≤◌, ◌+◌, ℕ, ◌==◌, ◌||◌, List, [], ◌∷◌, ◌++◌, length, drop, sym, ap, append-nil, arith}
 use Rattle.std.specs.Prelude.{slice_range}
-use Rattle.std.specs.List.{flat_map}
 use Rattle.std.proofs.lemmas.Bool.Decides.{nat_tests}
 use Rattle.std.proofs.lemmas.List.{length_push}
 use Rattle.std.proofs.lemmas.List.Concat.{flat_map-append}
@@ -13,7 +12,7 @@ use Rattle.change_inbox.specs.Books.{cut, shut}
 use Rattle.change_inbox.specs.Entries.{by_seat, seat_of, posts_in, shuts_in}
 use Rattle.change_inbox.specs.Seats.{SeatView, GoesOn, own_of, saw}
 use Rattle.change_inbox.proofs.EntryLists.{posts_in-append, shuts_in-append}
-use Rattle.live_posts.specs.Cuts.{Take, take_at, takes_after, takes, posts_taken, is_post, posts_and_own, taken_by, IsCutter}
+use Rattle.live_posts.specs.Cuts.{Take, take_at, takes, posts_taken, is_post, posts_and_own, taken_by, IsCutter}
 use Rattle.live_posts.proofs.CutLaws.{cuts_nothing, posts_kept, taken_and_waiting, takes_after-append, takes_stay, waiting_after, waits}
 
 module _ {T : Type 0} where

@@ -1,8 +1,8 @@
 -- A journal that two seats wrote: the first posts, the second cuts.
-use Rattle.std.proofs.Common.{◌≡◌, ◌∙◌, ℕ, zero, suc, ◌+◌, ◌<◌, ◌≤◌, ◌⊎◌, inl, inr, ◌==◌, cond, not, List, [], ◌∷◌, ◌++◌, length, get_or, Bool, true, false, refl, sym, ap, subst, append-nil, length-append, arith}
-use Rattle.std.specs.Prelude.{All, Any}
+use Rattle.std.proofs.Common.{◌≡◌, ◌∙◌, ℕ, ◌+◌, ◌⊎◌, inl, inr, ◌==◌, cond, not, List, [], ◌∷◌, ◌++◌, length, Bool, true, false, refl, sym, ap, subst, append-nil, length-append, arith}
+use Rattle.std.specs.Prelude.{All}
 use Rattle.std.proofs.lemmas.List.{nil_from_length}
-use Rattle.std.proofs.lemmas.List.Elements.{All-head, All-tail, All-weaker}
+use Rattle.std.proofs.lemmas.List.Elements.{All-head, All-tail}
 use mathlib.Core.List.{IsPrefix}
 use Rattle.change_inbox.specs.declared.entry.Entry.{Entry}
 use Rattle.change_inbox.specs.declared.entry.Entry.TheVariants.{Post, Cut, Shut}
@@ -100,36 +100,24 @@ module _ {T : Type 0} where
   entries_only_post seat number [] = (refl, refl)
   entries_only_post seat number (x ∷ xs) = entries_only_post seat (number + 1) xs
 
-  -- the seat of an entry is that of one of two
-  seat_of_two : (one two x : SeatView T) (n k : ℕ) → one.number ≡ 0 → two.number ≡ 1 → k < 2 → get_or (one ∷ two ∷ []) k x ≡ x → x.number ≡ n → (n ≡ 0) ⊎ (n ≡ 1)
-  seat_of_two one two x n zero first second lt at is = inl (sym is ∙ (ap (λ (s : SeatView T). s.number) (sym at) ∙ first))
-  seat_of_two one two x n (suc zero) first second lt at is = inr (sym is ∙ (ap (λ (s : SeatView T). s.number) (sym at) ∙ second))
-  seat_of_two one two x n (suc (suc k)) first second lt at is = absurd (omega arith)
-
   -- what is known of a journal that was closed, with its two seats
   pub record Closed (one two : SeatView T) (journal : List (Entry T)) : Type 0 where
     pub first : one.number ≡ 0
     pub second : two.number ≡ 1
     pub posts : own_of one ≡ entries_of one.number 0 (posts_in (own_of one))
     pub no_posts : length (posts_in (own_of two)) ≡ 0
-    pub seen : All (λ (s : SeatView T). IsPrefix s.seen journal) (one ∷ two ∷ [])
-    pub own : All (λ (s : SeatView T). by_seat s.number journal ≡ own_of s) (one ∷ two ∷ [])
-    pub others : All (λ e. Any (λ (s : SeatView T). s.number ≡ seat_of e) (one ∷ two ∷ [])) journal
+    pub seen : IsPrefix one.seen journal × IsPrefix two.seen journal
+    pub own : (by_seat one.number journal ≡ own_of one) × (by_seat two.number journal ≡ own_of two)
+    pub others : All (λ e. (seat_of e ≡ one.number) ⊎ (seat_of e ≡ two.number)) journal
 
   pub of_two : (one two : SeatView T) (journal : List (Entry T)) → Closed one two journal → OfTwo journal
-  of_two one two journal c = All-weaker (λ (e : Entry T). Any (λ (s : SeatView T). s.number ≡ seat_of e) (one ∷ two ∷ [])) (λ (e : Entry T). (seat_of e ≡ 0) ⊎ (seat_of e ≡ 1)) (λ (e : Entry T) any. seat_of_two one two any.1 (seat_of e) any.0 c.first c.second any.2 any.3 any.4) journal c.others
+  of_two one two journal c = subst (λ n. All (λ e. (seat_of e ≡ 0) ⊎ (seat_of e ≡ n)) journal) c.second (subst (λ n. All (λ e. (seat_of e ≡ n) ⊎ (seat_of e ≡ two.number)) journal) c.first c.others)
 
   pub own_first : (one two : SeatView T) (journal : List (Entry T)) → Closed one two journal → by_seat 0 journal ≡ own_of one
-  own_first one two journal c = ap (λ n. by_seat n journal) (sym c.first) ∙ All-head (λ (s : SeatView T). by_seat s.number journal ≡ own_of s) one (two ∷ []) c.own
+  own_first one two journal c = ap (λ n. by_seat n journal) (sym c.first) ∙ c.own.0
 
   pub own_second : (one two : SeatView T) (journal : List (Entry T)) → Closed one two journal → by_seat 1 journal ≡ own_of two
-  own_second one two journal c = ap (λ n. by_seat n journal) (sym c.second) ∙ All-head (λ (s : SeatView T). by_seat s.number journal ≡ own_of s) two [] (All-tail (λ (s : SeatView T). by_seat s.number journal ≡ own_of s) one (two ∷ []) c.own)
-
-  pub seen_first : (one two : SeatView T) (journal : List (Entry T)) → Closed one two journal → IsPrefix one.seen journal
-  seen_first one two journal c = All-head (λ (s : SeatView T). IsPrefix s.seen journal) one (two ∷ []) c.seen
-
-  pub seen_second : (one two : SeatView T) (journal : List (Entry T)) → Closed one two journal → IsPrefix two.seen journal
-  seen_second one two journal c = All-head (λ (s : SeatView T). IsPrefix s.seen journal) two [] (All-tail (λ (s : SeatView T). IsPrefix s.seen journal) one (two ∷ []) c.seen)
+  own_second one two journal c = ap (λ n. by_seat n journal) (sym c.second) ∙ c.own.1
 
   pub closed_posts : (one two : SeatView T) (journal : List (Entry T)) → Closed one two journal → posts_in journal ≡ posts_in (own_of one)
   closed_posts one two journal c =
@@ -142,7 +130,7 @@ module _ {T : Type 0} where
       let same : by_seat two.number journal ≡ by_seat two.number two.seen = ap (λ n. by_seat n journal) c.second ∙ own_second one two journal c in
       sym (takes_of_second [] journal (of_two one two journal c) none)
       ∙ (ap (λ n. takes (posts_and_own n journal)) (sym c.second)
-      ∙ takes_stay two.number two.seen journal (seen_second one two journal c) same)
+      ∙ takes_stay two.number two.seen journal c.seen.1 same)
 
   pub closed_shuts : (one two : SeatView T) (journal : List (Entry T)) → Closed one two journal → shuts_in journal ≡ shuts_in (own_of two)
   closed_shuts one two journal c =

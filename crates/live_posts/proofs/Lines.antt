@@ -1,6 +1,6 @@
 -- Lines that are posted one after the other, and a stop behind them.
-use Rattle.std.proofs.Common.{◌≡◌, ◌∙◌, ℕ, zero, suc, ◌<◌, ◌≤◌, ◌+◌, not, Bool, true, false, cond, List, [], ◌∷◌, ◌++◌, length, map, refl, sym, ap, subst, append-nil, zero-add, arith}
-use Rattle.std.specs.Prelude.{All, filter}
+use Rattle.std.proofs.Common.{◌≡◌, ◌∙◌, ℕ, suc, ◌≤◌, ◌+◌, not, Bool, true, false, cond, List, [], ◌∷◌, ◌++◌, length, map, refl, sym, ap, subst, append-nil, zero-add, arith}
+use Rattle.std.specs.Prelude.{All}
 use Rattle.std.specs.List.{range_with_len}
 use Rattle.std.proofs.lemmas.List.{append_assoc, length_push, map-id, map_push}
 use Rattle.std.proofs.lemmas.List.FromFn.{map-range_with_len_more}
@@ -10,7 +10,6 @@ use Rattle.plan_changes.specs.declared.line.Body.{Body}
 use Rattle.plan_changes.specs.declared.line.Post.{Post}
 use Rattle.plan_ports.specs.Outside.{LaterSource, SourceState}
 use Rattle.feed_lines.specs.Limits.{most_lines}
-use Rattle.change_inbox.specs.declared.entry.Entry.{Entry}
 use Rattle.change_inbox.specs.Books.{post}
 use Rattle.change_inbox.specs.Entries.{posts_in}
 use Rattle.change_inbox.specs.Seats.{SeatView, own_of}

@@ -1,5 +1,5 @@
 -- The two seats of an inbox that was opened for a run.
-use Rattle.std.proofs.Common.{◌≡◌, ◌∙◌, ℕ, ◌+◌, List, [], ◌∷◌, ◌++◌, Some, length, slice_get, sym, ap, length-append, arith}
+use Rattle.std.proofs.Common.{◌≡◌, ◌∙◌, List, [], ◌∷◌, ◌++◌, Some, length, slice_get, sym, ap, arith}
 use Rattle.std.proofs.lemmas.List.{length_push, nil_from_length}
 use Rattle.change_inbox.specs.Seats.{InboxView, SeatView, AreFresh, fresh_seat}
 

@@ -1,15 +1,12 @@
 -- Why no post of a feeder is refused.
-use Rattle.std.proofs.Common.{◌≡◌, ◌∙◌, ◌+◌, ◌<◌, ◌≤◌, ◌++◌, List, length, sym, ap, subst, append-nil, length-append, arith}
+use Rattle.std.proofs.Common.{◌≡◌, ◌∙◌, ◌<◌, ◌≤◌, ◌++◌, List, length, ap, subst, append-nil, length-append, arith}
 use mathlib.Core.List.{IsPrefix}
 use Rattle.plan_changes.specs.declared.line.Post.{Post}
-use Rattle.feed_lines.specs.Limits.{most_lines}
 use Rattle.change_inbox.specs.declared.entry.Entry.{Entry}
 use Rattle.change_inbox.specs.Entries.{posts_in, shuts_in}
-use Rattle.change_inbox.specs.Seats.{SeatView}
 use Rattle.change_inbox.proofs.EntryLists.{posts_in-append, shuts_in-append}
-use Rattle.live_posts.specs.declared.fed.Fed.TheVariants.{Shut, Full}
 use Rattle.live_posts.specs.Feeding.{Shows, lines_among, posts_of, stops_behind}
-use Rattle.live_posts.specs.Laws.{FindsRoom, GoesOnUnshut, IsClosed}
+use Rattle.live_posts.specs.Laws.{FindsRoom, GoesOnUnshut}
 
 -- a longer journal has no fewer posts
 posts_later : (seen journal : List (Entry Post)) → IsPrefix seen journal → length (posts_in seen) ≤ length (posts_in journal)

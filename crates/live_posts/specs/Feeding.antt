@@ -1,5 +1,5 @@
 -- What the feeder of a run posts.
-use Rattle.std.specs.Prelude.{◌≡◌, ℕ, ◌+◌, ◌<◌, Bool, not, true, false, List, [], ◌∷◌, ◌++◌, filter, length, map}
+use Rattle.std.specs.Prelude.{◌≡◌, ℕ, ◌+◌, ◌<◌, Bool, not, true, false, List, [], ◌∷◌, filter, length, map}
 use Rattle.plan_changes.specs.declared.line.Body.{Body}
 use Rattle.plan_changes.specs.declared.line.Body.TheVariants.{Stop}
 use Rattle.plan_changes.specs.declared.line.Post.{Post}

@@ -9,7 +9,6 @@ ghost use Rattle.live_posts.specs.Feeding.{entries_of};
 
 use crate::cutter::Cutter;
 use change_inbox::{Inbox, Journal, Kept, Memory, Seat};
-use plan_facts::List;
 use std::alloc::Global;
 
 /// The inbox of a run with one feeder, with room for so many posts and cuts; the feeder's seat, which is the first of two, and
@@ -35,28 +34,20 @@ pub fn open_run<T: Kept>(
 
 /// The whole journal of a run with one feeder, which has the first of two seats, and a cutter, which has the last. Its posts
 /// are the feeder's, in order, its cuts the cutter's, each with the posts that it took; the cuts take the first posts, each
-/// once and in order: all of them where the cutter has cut since it met the feeder. Memory, and then nothing is given.
-pub fn close_run<T: Kept>(
-    alloc: Global,
-    inbox: Inbox<T>,
-    feeder: Seat<T>,
-    cutter: Cutter<T>,
-) -> Result<Journal<T>, Memory>
+/// once and in order: all of them where the cutter has cut since it met the feeder. It takes no memory.
+pub fn close_run<T: Kept>(inbox: Inbox<T>, feeder: Seat<T>, cutter: Cutter<T>) -> Journal<T>
     requires seats { inbox.limits.seats ≡ 2 }
     requires feeder { (feeder.inbox ≡ inbox) × (feeder.number ≡ 0) }
     requires cutter { (cutter.inbox ≡ inbox) × (cutter.number ≡ 1) }
     requires posts { own_of feeder ≡ entries_of feeder.number 0 (posts_in (own_of feeder)) }
-    ensures posts { IfOk result (λ journal. posts_in journal ≡ posts_in (own_of feeder)) }
-    ensures takes { IfOk result (λ journal. takes journal ≡ taken_by cutter) }
-    ensures front { IfOk result (λ journal. IsPrefix (posts_taken (takes journal)) (posts_in journal)) }
+    ensures posts { posts_in result ≡ posts_in (own_of feeder) }
+    ensures takes { takes result ≡ taken_by cutter }
+    ensures front { IsPrefix (posts_taken (takes result)) (posts_in result) }
     ensures all { IsPrefix (posts_in feeder.seen) (posts_taken (taken_by cutter))
-        → IfOk result (λ journal. posts_taken (takes journal) ≡ posts_in journal) }
-    ensures shuts { IfOk result (λ journal. shuts_in journal ≡ shuts_in (own_of cutter)) }
-    ensures feeder { IfOk result (λ journal. IsPrefix feeder.seen journal × (by_seat 0 journal ≡ own_of feeder)) }
-    ensures cutter { IfOk result (λ journal. IsPrefix cutter.seen journal × (by_seat 1 journal ≡ own_of cutter)) }
+        → posts_taken (takes result) ≡ posts_in result }
+    ensures shuts { shuts_in result ≡ shuts_in (own_of cutter) }
+    ensures feeder { IsPrefix feeder.seen result × (by_seat 0 result ≡ own_of feeder) }
+    ensures cutter { IsPrefix cutter.seen result × (by_seat 1 result ≡ own_of cutter) }
 {
-    let mut seats = List::new(alloc);
-    seats.push(feeder)?;
-    seats.push(cutter.into_seat())?;
-    Ok(inbox.close(seats))
+    inbox.close_both(feeder, cutter.into_seat())
 }

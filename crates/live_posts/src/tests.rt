@@ -84,7 +84,7 @@ fn fed_at_once<W: Wait, S: Source>(
     let fed = feed_all(rt, alloc, &inbox, &mut feeder, src, &NoGate);
     cutter.meet(&inbox, &mut feeder);
     cutter.cut(rt, &inbox, 0)?;
-    Ok((fed, close_run(alloc, inbox, feeder, cutter)?))
+    Ok((fed, close_run(inbox, feeder, cutter)))
 }
 
 /// Six lines: two rooms, and four that name nothing or are no change.
@@ -199,7 +199,7 @@ fn no_line_is_posted_behind_a_shut(rt: HostRuntime) -> Result<(), Fail> {
     let mut src = source(rt.alloc(), b"one\ntwo\n", 100, &[])?;
     let fed = feed_all(&rt, rt.alloc(), &inbox, &mut feeder, &mut src, &NoGate);
     assert_eq!(rt; fed, Fed::Shut);
-    let journal = close_run(rt.alloc(), inbox, feeder, cutter)?;
+    let journal = close_run(inbox, feeder, cutter);
     assert_eq!(rt; wrong_entry(&journal, &[Word::Shut]), None);
     Ok(())
 }
@@ -249,7 +249,7 @@ fn fed_in_a_thread<R: Threads + Wait + Sync, S: Source + Send, G: Gate + Sync>(
     cutter.meet(&inbox, &mut feeder);
     cutter.cut(rt, &inbox, steps)?;
     no_post_is_refused();
-    Ok((fed, close_run(alloc, inbox, feeder, cutter)?))
+    Ok((fed, close_run(inbox, feeder, cutter)))
 }
 
 /// How many cuts the journal has, and how many posts.

@@ -1,7 +1,6 @@
-use Rattle.std.proofs.Common.{◌≡◌, ◌∙◌, ◌<◌, ◌++◌, ◌∷◌, [], Some, length, slice_get, take, drop, refl, sym, ap, rules, arith}
+use Rattle.std.proofs.Common.{◌≡◌, ◌∙◌, ◌++◌, ◌∷◌, [], Some, slice_get, take, drop, refl, sym, ap, rules, arith}
 use Rattle.change_inbox.specs.Entries.{posts_in}
 use Rattle.live_posts.proofs.Looking.{goes_nowhere, goes_then, not_none, range_more_at, same_size, seen_post}
-use Rattle.live_posts.proofs.copying.copy_posts.Given.{Over}
 use Rattle.live_posts.proofs.copying.copy_posts.Goals as goal
 
 pub loop-place-init : goal.loop-place-init

@@ -1,9 +1,8 @@
-use Rattle.std.proofs.Common.{◌≡◌, ◌∙◌, ◌≤◌, ◌+◌, ◌++◌, ◌∷◌, [], false, List, Option, Some, Err, length, map, append-nil, is_none, sym, ap, refl, subst, arith}
+use Rattle.std.proofs.Common.{◌≡◌, ◌∙◌, ◌≤◌, ◌+◌, ◌++◌, ◌∷◌, [], false, List, Option, Err, length, map, append-nil, is_none, sym, ap, refl, subst, arith}
 use Rattle.std.specs.Prelude.{All, IfSome}
 use Rattle.std.specs.List.{range_with_len}
 use Rattle.std.proofs.lemmas.List.{length_push}
 use Rattle.std.proofs.lemmas.List.Elements.{All-nil, All-push}
-use mathlib.Core.List.{IsPrefix}
 use Rattle.plan_changes.specs.declared.line.Post.{Post}
 use Rattle.feed_lines.specs.Limits.{most_lines}
 use Rattle.feed_lines.specs.Reading.{is_overlong}

@@ -1,4 +1,4 @@
-use Rattle.std.proofs.Common.{◌≡◌, ◌∙◌, ◌<◌, ◌++◌, ◌∷◌, [], length, sym, ap, subst}
+use Rattle.std.proofs.Common.{◌∙◌, ◌<◌, ◌++◌, ◌∷◌, [], length, sym, ap, subst}
 use Rattle.change_inbox.specs.Books.{post}
 use Rattle.change_inbox.specs.Entries.{posts_in, shuts_in}
 use Rattle.change_inbox.specs.Seats.{own_of}

@@ -1,4 +1,4 @@
-use Rattle.std.proofs.Common.{◌≡◌, ap, true, false}
+use Rattle.std.proofs.Common.{ap}
 use Rattle.live_posts.specs.declared.fed.Fed.TheVariants.{Stopped}
 use Rattle.live_posts.specs.Feeding.{stops_behind}
 use Rattle.live_posts.proofs.Lines.{own_same, refused_no_stop}

@@ -1,5 +1,4 @@
-use Rattle.std.proofs.Common.{◌≡◌, ◌∙◌, ◌+◌, ◌<◌, length, refl, arith}
-use Rattle.live_posts.specs.Cuts.{taken_by}
+use Rattle.std.proofs.Common.{◌∙◌, refl, arith}
 use Rattle.live_posts.proofs.Cutting.{no_more_shuts, one_more_cut}
 use Rattle.live_posts.proofs.tests.cut_often.Goals as goal
 

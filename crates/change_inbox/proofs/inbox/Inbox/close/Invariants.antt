@@ -5,9 +5,8 @@ use Rattle.change_inbox.proofs.inbox.Inbox.close.Given as goal
 
 abbrev pub invariant-loop-seat : goal.invariant-loop-seat
 invariant-loop-seat g l = record {
-  table : l.all.table_id ≡ l.table.shared.table_id;
-  same : l.table ≡ l.initial.table;
-  holds : l.all.me ≡ (holding l.all.me.0.limits l.all.me.0.parts l.all.me.0.members, []);
+  table : l.all.table_id ≡ l.fn.self.table;
+  holds : l.all.me ≡ (holding l.fn.self.limits l.all.me.0.parts l.all.me.0.members, []);
   some : 0 < l.all.me.0.parts;
   parts : l.all.me.0.parts + length l.seats ≡ l.fn.self.limits.seats;
   members : map member_of l.seats ++ l.all.me.0.members ≡ map member_of l.fn.seats;

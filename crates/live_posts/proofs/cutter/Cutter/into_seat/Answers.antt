@@ -1,4 +1,4 @@
-use Rattle.std.proofs.Common.{◌≡◌, ◌∙◌, length, sym, ap}
+use Rattle.std.proofs.Common.{◌∙◌, length, sym, ap}
 use Rattle.change_inbox.specs.Entries.{posts_in}
 use Rattle.change_inbox.specs.Seats.{own_of}
 use Rattle.live_posts.proofs.cutter.Cutter.into_seat.Goals as goal

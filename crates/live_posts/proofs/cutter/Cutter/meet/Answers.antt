@@ -1,4 +1,4 @@
-use Rattle.std.proofs.Common.{◌≡◌, ◌∙◌, ap, subst}
+use Rattle.std.proofs.Common.{◌∙◌, ap, subst}
 use mathlib.Core.List.{IsPrefix}
 use Rattle.change_inbox.specs.Seats.{own_of}
 use Rattle.live_posts.specs.Cuts.{taken_by}

@@ -1,4 +1,4 @@
-use Rattle.std.proofs.Common.{◌≡◌, ◌∙◌, ◌++◌, ◌∷◌, [], ap}
+use Rattle.std.proofs.Common.{◌∙◌, ◌++◌, ◌∷◌, [], ap}
 use Rattle.change_inbox.specs.Books.{shut}
 use Rattle.change_inbox.specs.Entries.{shuts_in}
 use Rattle.change_inbox.specs.Seats.{own_of}

@@ -1,5 +1,5 @@
 -- What places mean.
-use Rattle.std.specs.Prelude.{◌≡◌, ℕ, Bool, true, List, [], ◌∷◌, map, is_some, length, unwrap_or, Some}
+use Rattle.std.specs.Prelude.{◌≡◌, ℕ, Bool, true, List, [], ◌∷◌, map, is_some, length, unwrap_or, None, Option, Some}
 use Rattle.std.specs.List.{flat_map, list_all}
 use Rattle.std.specs.FinMap as finmap
 use Rattle.plan_facts.specs.declared.record.Rec.{Rec}
@@ -23,6 +23,11 @@ parts_at heads (cell.Num n) = Num n ∷ []
 -- the row that cells mean
 abbrev pub row_at : Rows → List Cell → List Part
 row_at heads cells = flat_map (parts_at heads) cells
+
+-- the row that cells lend: where they are one live place, what stands there
+abbrev pub row_lent : Rows → List Cell → Option (List Part)
+row_lent heads (cell.Place place ∷ []) = finmap.get heads place
+row_lent heads _ = None
 
 -- the rows that rows of cells mean
 abbrev pub meant : Rows → List (List Cell) → List (List Part)

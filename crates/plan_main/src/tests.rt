@@ -1,9 +1,12 @@
 ghost use Rattle.std.specs.Prelude.{◌≤◌, All, IfOk};
 ghost use Rattle.std.specs.Thread.{IsSync};
 
+mod live_rows;
 mod rows;
 
 use super::*;
+use itoa::Buffer;
+use live_rows::{EMPTY, FED, ROOM};
 use plan_facts::{List, is_name};
 use plan_ports::{MemFile, MemShelf, MemSink};
 use plan_rules::{Kept, Rules, Test, Weigh};
@@ -40,8 +43,8 @@ fn filled(alloc: Global, text: &str) -> Result<Vec<u8>, Memory> {
     Ok(out)
 }
 
-/// A run over memory: the words, the bytes of the files `p`, `f` and `j`, the opens and the puts that fail, and how many bytes a
-/// put takes.
+/// A run over memory: the words, the bytes of the files `p`, `f` and `j`, the opens, the takes of the feed and the puts that fail,
+/// and how many bytes a take of the feed gives and a put takes.
 #[derive(Drop)]
 struct Asked {
     words: &'static str,
@@ -49,7 +52,9 @@ struct Asked {
     feed: Vec<u8>,
     journal: Vec<u8>,
     opens: &'static [u32],
+    takes: &'static [u32],
     puts: Vec<u32>,
+    take: usize,
     most: usize,
 }
 
@@ -68,7 +73,9 @@ fn solved(alloc: Global, problem: Vec<u8>) -> Asked {
         feed: Vec::new(alloc),
         journal: Vec::new(alloc),
         opens: &[],
+        takes: &[],
         puts: Vec::new(alloc),
+        take: 4096,
         most: 4096,
     }
 }
@@ -81,24 +88,30 @@ fn words_in(alloc: Global, line: &str) -> Result<Vec<Text>, Memory> {
     Ok(words)
 }
 
-/// A file of these bytes under a name.
-fn file(alloc: Global, name: &[u8], bytes: &[u8]) -> Result<MemFile, Memory>
+/// A file of these bytes under a name, whose takes give at most so many of them, and fail at these.
+fn file(
+    alloc: Global,
+    name: &[u8],
+    bytes: &[u8],
+    most: usize,
+    fail: &[u32],
+) -> Result<MemFile, Memory>
     ensures { IfOk result (λ file. 1 ≤ file.most) }
 {
     Ok(MemFile {
         name: Vec::from_slice(alloc, name)?,
         bytes: Vec::from_slice(alloc, bytes)?,
-        most: 4096,
-        fail: Vec::new(alloc),
+        most: most.max(1),
+        fail: Vec::from_slice(alloc, fail)?,
     })
 }
 
 /// The shelf of a run: its problem, its feed and its journal.
 fn shelf_of(alloc: Global, asked: &Asked) -> Result<MemShelf, Memory> {
     let mut files = Vec::new(alloc);
-    files.push(file(alloc, b"p", &asked.problem)?)?;
-    files.push(file(alloc, b"f", &asked.feed)?)?;
-    files.push(file(alloc, b"j", &asked.journal)?)?;
+    files.push(file(alloc, b"p", &asked.problem, 4096, &[])?)?;
+    files.push(file(alloc, b"f", &asked.feed, asked.take, asked.takes)?)?;
+    files.push(file(alloc, b"j", &asked.journal, 4096, &[])?)?;
     Ok(MemShelf::new(alloc, files, Vec::from_slice(alloc, asked.opens)?))
 }
 
@@ -227,6 +240,105 @@ fn a_replay_takes_each_line_at_its_boundary(rt: HostRuntime) -> Result<(), Fail>
     for outcome in &outcomes {
         expect(&rt, outcome, &filled(alloc, ADDED_TEXT)?, Status::Ok);
     }
+    Ok(())
+}
+
+/// `solve` of a problem with a feed, whose takes give at most so many bytes.
+fn fed(alloc: Global, problem: &str, feed: &[u8], take: usize) -> Result<Asked, Memory> {
+    let mut one = solved(alloc, filled(alloc, problem)?);
+    one.words = "solve p --feed f";
+    one.feed.extend_from_slice(feed)?;
+    one.take = take;
+    Ok(one)
+}
+
+/// Each run, with a feed that gives 1, 3 and 4,096 bytes a take.
+fn asked_fed(alloc: Global) -> Result<Vec<Asked>, Memory> {
+    let mut asked = Vec::new(alloc);
+    for case in FED {
+        for take in [1, 3, 4096] {
+            asked.push(fed(alloc, case.problem, case.feed.as_bytes(), take)?)?;
+        }
+    }
+    Ok(asked)
+}
+
+#[test]
+fn a_run_of_no_steps_takes_its_feed_at_its_one_boundary(rt: HostRuntime) -> Result<(), Fail> {
+    let alloc = rt.alloc();
+    let outcomes = outcomes(&rt, alloc, asked_fed(alloc)?)?;
+    assert_eq!(rt; outcomes.len(), FED.len().saturating_mul(3));
+    for (outcomes, case) in outcomes.chunks(3).zip(FED) {
+        for outcome in outcomes {
+            expect(&rt, outcome, &filled(alloc, case.text)?, Status::Ok);
+        }
+    }
+    Ok(())
+}
+
+/// A line of 65,537 bytes and then a room; 4,096 empty lines; and a byte behind these.
+fn asked_long(alloc: Global) -> Result<Vec<Asked>, Memory> {
+    let mut asked = Vec::new(alloc);
+    let mut long = vec![in alloc; b'x'; 65_537]?;
+    long.push(b'\n')?;
+    long.extend_from_slice(ROOM.as_bytes())?;
+    asked.push(fed(alloc, EMPTY, &long, 4096)?)?;
+    let mut many = vec![in alloc; b'\n'; 4096]?;
+    asked.push(fed(alloc, EMPTY, &many, 4096)?)?;
+    many.push(b'\n')?;
+    asked.push(fed(alloc, EMPTY, &many, 4096)?)?;
+    Ok(asked)
+}
+
+/// What is written of a feed of 4,096 empty lines.
+fn many_refused(alloc: Global) -> Result<Vec<u8>, Memory> {
+    let mut text = Vec::from_slice(alloc, b"run timetable\nleg 0\n")?;
+    for line in 1..=4096u32 {
+        text.extend_from_slice(b"change ")?;
+        text.extend_from_slice(Buffer::new().format(line).as_bytes())?;
+        text.extend_from_slice(b" 0 refused syntax json\n")?;
+    }
+    text.extend_from_slice(&filled(alloc, "start <Z>\nbest <Z>\n<TZ>\nend\n")?)?;
+    Ok(text)
+}
+
+#[test]
+fn long_feeds_keep_the_limits(rt: HostRuntime) -> Result<(), Fail> {
+    let alloc = rt.alloc();
+    let outcomes = outcomes(&rt, alloc, asked_long(alloc)?)?;
+    let [one, many, more] = outcomes.as_slice() else {
+        return Err("there are other runs".into());
+    };
+    let long =
+        "run timetable\nleg 0\nchange 1 0 refused long_line\nchange 2 0 applied room#2\nstart <Z>\nbest <Z>\n<TZ>\nend\n";
+    expect(&rt, one, &filled(alloc, long)?, Status::Ok);
+    expect(&rt, many, &many_refused(alloc)?, Status::Ok);
+    expect(&rt, more, b"run timetable\n", Status::FeedTooLong);
+    Ok(())
+}
+
+/// A feed that can't be opened, and one that fails at its second take.
+fn asked_lost(alloc: Global) -> Result<Vec<Asked>, Memory> {
+    let mut asked = Vec::new(alloc);
+    let mut closed = fed(alloc, APART, b"", 4096)?;
+    closed.opens = &[1];
+    asked.push(closed)?;
+    let mut broken = fed(alloc, IDLE, ROOM.as_bytes(), 4096)?;
+    broken.takes = &[1];
+    asked.push(broken)?;
+    Ok(asked)
+}
+
+#[test]
+fn a_feed_that_is_lost_ends_the_run(rt: HostRuntime) -> Result<(), Fail> {
+    let alloc = rt.alloc();
+    let outcomes = outcomes(&rt, alloc, asked_lost(alloc)?)?;
+    let [closed, broken] = outcomes.as_slice() else {
+        return Err("there are other runs".into());
+    };
+    expect(&rt, closed, b"refused feed\n", Status::Feed);
+    assert_eq!(rt; broken.status, Status::Feed);
+    assert!(rt; broken.text.starts_with(b"run timetable\n"));
     Ok(())
 }
 

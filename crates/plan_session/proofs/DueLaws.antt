@@ -19,10 +19,10 @@ use Rattle.plan_session.specs.declared.status.Status.{Status}
 use Rattle.plan_session.specs.declared.status.Status.TheVariants as status
 use Rattle.plan_session.specs.declared.task.Files.{Files}
 use Rattle.plan_session.specs.declared.task.Wanted.{Wanted}
-use Rattle.plan_session.specs.Due.{DueForBytes, DueForProblem, DueForTour, DueGenerated, DueUnread, DueUsage, IsDue, generated_text, usage_line}
+use Rattle.plan_session.specs.Due.{DueForBytes, DueForProblem, DueForTour, DueGenerated, DueUnread, IsDue, generated_text}
 use Rattle.plan_session.specs.Ending.{Ended, Says}
 use Rattle.plan_session.specs.Run.{Run}
-use Rattle.plan_session.specs.Task.{Task, generated_by, generation_asked, replay_asked, replayed_by, task_asked, task_of, text_wanted, tour_asked, toured_by}
+use Rattle.plan_session.specs.Task.{Task, fed_by, files_asked, generated_by, generation_asked, task_asked, task_of, text_wanted, tour_asked, toured_by}
 use Rattle.plan_session.proofs.EndingLaws.{ended_saying}
 
 -- what is due for a problem is due for its bytes
@@ -95,36 +95,29 @@ pub tours_nothing : (words : List (List ℕ)) → command words ≡ None → tou
 unfolding tour_asked
 tours_nothing words is = ap (option_and_then toured_by) is
 
--- what a command asks to do again
-pub replays : (words : List (List ℕ)) (c : Command) (files : Option Files) → command words ≡ Some c → replayed_by c ≡ files → replay_asked words ≡ files
-unfolding replay_asked
-replays words c files is of_it = ap (option_and_then replayed_by) is ∙ of_it
+-- the files of the run with a feed that a command asks for
+pub feeds : (words : List (List ℕ)) (c : Command) (files : Option Files) → command words ≡ Some c → fed_by c ≡ files → files_asked words ≡ files
+unfolding files_asked
+feeds words c files is of_it = ap (option_and_then fed_by) is ∙ of_it
 
-pub replays_nothing : (words : List (List ℕ)) → command words ≡ None → replay_asked words ≡ None
-unfolding replay_asked
-replays_nothing words is = ap (option_and_then replayed_by) is
+pub feeds_nothing : (words : List (List ℕ)) → command words ≡ None → files_asked words ≡ None
+unfolding files_asked
+feeds_nothing words is = ap (option_and_then fed_by) is
 
--- a command that isn't `replay` does no run again
-pub no_replay : (c : Command) → ((name feed journal : List ℕ) → c ≡ Replay name feed journal → ⊥) → replayed_by c ≡ None
-no_replay (Solve name feed workers buffer) other = refl
-no_replay (Replay name feed journal) other = absurd (other name feed journal refl)
-no_replay (Score name) other = refl
-no_replay (Explain name) other = refl
-no_replay (Gen number size) other = refl
-no_replay (Tour number size workers buffer) other = refl
+-- a command that asks for a run with a feed asks for nothing else
+pub fed_asks_nothing : (c : Command) (files : Files) → fed_by c ≡ Some files → (task_of c ≡ None) × (generated_by c ≡ None) × (toured_by c ≡ None)
+fed_asks_nothing (Solve name None workers buffer) files is = absurd cc
+fed_asks_nothing (Solve name (Some feed) workers buffer) files is = (refl, refl, refl)
+fed_asks_nothing (Replay name feed journal) files is = (refl, refl, refl)
+fed_asks_nothing (Score name) files is = absurd cc
+fed_asks_nothing (Explain name) files is = absurd cc
+fed_asks_nothing (Gen number size) files is = absurd cc
+fed_asks_nothing (Tour number size workers buffer) files is = absurd cc
 
--- a command that asks to do a run again asks for nothing else
-pub replayed_asks_nothing : (c : Command) (files : Files) → replayed_by c ≡ Some files → (task_of c ≡ None) × (generated_by c ≡ None) × (toured_by c ≡ None)
-replayed_asks_nothing (Solve name feed workers buffer) files is = absurd cc
-replayed_asks_nothing (Replay name feed journal) files is = (refl, refl, refl)
-replayed_asks_nothing (Score name) files is = absurd cc
-replayed_asks_nothing (Explain name) files is = absurd cc
-replayed_asks_nothing (Gen number size) files is = absurd cc
-replayed_asks_nothing (Tour number size workers buffer) files is = absurd cc
-
--- a command that asks for something of a problem that it names generates none and does no run again
-pub asked_generates_nothing : (c : Command) (task : Task) → task_of c ≡ Some task → (generated_by c ≡ None) × (toured_by c ≡ None) × (replayed_by c ≡ None)
-asked_generates_nothing (Solve name feed workers buffer) task is = (refl, refl, refl)
+-- a command that asks for something of a problem that it names generates none and has no feed
+pub asked_generates_nothing : (c : Command) (task : Task) → task_of c ≡ Some task → (generated_by c ≡ None) × (toured_by c ≡ None) × (fed_by c ≡ None)
+asked_generates_nothing (Solve name None workers buffer) task is = (refl, refl, refl)
+asked_generates_nothing (Solve name (Some feed) workers buffer) task is = absurd cc
 asked_generates_nothing (Replay name feed journal) task is = absurd cc
 asked_generates_nothing (Score name) task is = (refl, refl, refl)
 asked_generates_nothing (Explain name) task is = (refl, refl, refl)
@@ -138,12 +131,6 @@ due_said run said s text is due = subst (λ (given : Status). IsDue run given te
 generated : (run : Run) (number size : ℕ) (text : List ℕ) → run.generates ≡ Some (number, size) → text ≡ generated_text number size → DueGenerated run text
 generated run number size text is says = record { number = number; size = size; generates = is; says = says }
 
-used : (run : Run) (s : Status) (text : List ℕ) → run.asked ≡ None → run.generates ≡ None → run.tours ≡ None → run.replays ≡ None → Says status.Usage usage_line s text → IsDue run s text
-used run s text unasked ungenerated untoured unreplayed said =
-    let due : DueUsage run text =
-    record { unasked = unasked; ungenerated = ungenerated; untoured = untoured; unreplayed = unreplayed; says = said.1 } in
-    due_said run status.Usage s text said.0 due
-
 -- what is due for a tour is due in the run that asks for it
 due_toured : (run : Run) (number size : ℕ) → run.tours ≡ Some (number, size) → (s : Status) (text : List ℕ)
     → DueForTour run.domains run.makers run.meaning number size s text → IsDue run s text
@@ -151,27 +138,16 @@ due_toured run number size is status.Ok text due = inr (inr (inl (record { numbe
 due_toured run number size is status.Problem text due = inr (inl (record { number = number; size = size; tours = is; due = due }))
 due_toured run number size is _ text due = absurd due
 
--- for a command that neither generates a problem nor tours one, usage is due
-pub due_usage : (domains : List DomainView) (makers : List (List Made)) (meaning : Meaning) (c : Command)
-    → ((number size : ℕ) → c ≡ Gen number size → ⊥) → ((number size workers buffer : ℕ) → c ≡ Tour number size workers buffer → ⊥)
-    → (s : Status) (text : List ℕ) → Says status.Usage usage_line s text → DueUnread domains makers meaning c s text
-due_usage domains makers meaning (Gen number size) ungenerated untoured s text said = absurd (ungenerated number size refl)
-due_usage domains makers meaning (Tour number size workers buffer) ungenerated untoured s text said = absurd (untoured number size workers buffer refl)
-due_usage domains makers meaning (Solve name feed workers buffer) ungenerated untoured s text said = said
-due_usage domains makers meaning (Replay name feed journal) ungenerated untoured s text said = said
-due_usage domains makers meaning (Score name) ungenerated untoured s text said = said
-due_usage domains makers meaning (Explain name) ungenerated untoured s text said = said
-
 -- what is due for a command that reads no problem is due in the run
-pub due_unread : (run : Run) (c : Command) → run.asked ≡ None → run.generates ≡ generated_by c → run.tours ≡ toured_by c → run.replays ≡ None
+pub due_unread : (run : Run) (c : Command) → run.generates ≡ generated_by c → run.tours ≡ toured_by c
     → (s : Status) (text : List ℕ) → DueUnread run.domains run.makers run.meaning c s text → IsDue run s text
-due_unread run (Gen number size) unasked generates tours unreplayed s text said =
+due_unread run (Gen number size) generates tours s text said =
     due_said run status.Ok s text said.0 (inr (inl (generated run number size text generates said.1)))
-due_unread run (Tour number size workers buffer) unasked generates tours unreplayed s text due = due_toured run number size tours s text due
-due_unread run (Solve name feed workers buffer) unasked generates tours unreplayed s text said = used run s text unasked generates tours unreplayed said
-due_unread run (Replay name feed journal) unasked generates tours unreplayed s text said = used run s text unasked generates tours unreplayed said
-due_unread run (Score name) unasked generates tours unreplayed s text said = used run s text unasked generates tours unreplayed said
-due_unread run (Explain name) unasked generates tours unreplayed s text said = used run s text unasked generates tours unreplayed said
+due_unread run (Tour number size workers buffer) generates tours s text due = due_toured run number size tours s text due
+due_unread run (Solve name feed workers buffer) generates tours s text due = absurd due
+due_unread run (Replay name feed journal) generates tours s text due = absurd due
+due_unread run (Score name) generates tours s text due = absurd due
+due_unread run (Explain name) generates tours s text due = absurd due
 
 -- the text that is wanted of a problem was said, or a front of it
 pub ended_wanted : (meaning : Meaning) (makers : List Made) (wanted asked : Wanted) (d : DomainView) (p : ProblemView) (old new : SinkState) (result : Status)

@@ -11,7 +11,7 @@ use Rattle.plan_search.specs.Run.{cut_at, step_newest}
 use Rattle.plan_search.specs.RunLines.{Feed, best_lines_of, opening_lines, run_lines, text_of}
 use Rattle.plan_session.specs.Course.{BareLeg, best_in, gone_on, line_in, step_text}
 use Rattle.plan_session.specs.Fed.{bare, fed_text, legs_to, lines_so_far, newest}
-use Rattle.plan_session.specs.Live.{leg_begun, leg_behind, lines_behind, next_leg, next_lines, next_text, opening_text, text_behind}
+use Rattle.plan_session.specs.Live.{leg_begun, leg_behind, lines_behind, next_leg, next_lines, next_text, opening_text, text_behind, text_to}
 use Rattle.plan_session.proofs.Fed.{legs-next, lines-step}
 
 -- the text of lines behind others
@@ -123,20 +123,16 @@ module _ {Change : Type 0} (feed : Feed Change) (posed : Posed) where
         ∙ ap (λ (legs : List (Leg State Change)). lines_so_far feed posed legs
         ++ next_lines feed posed (suc n) (takes (suc n)) (newest posed legs)) (sym some.is)
 
-    -- the text of a run up to a boundary
-    abbrev pub text_to : ℕ → List ℕ
-    text_to n = text_of posed (lines_so_far feed posed (legs_to feed posed takes n))
-
-    -- grows by that of a step and the boundary behind it
+    -- the text of a run up to a boundary grows by that of a step and the boundary behind it
     pub text-next : (n : ℕ)
-        → text_to (suc n) ≡ text_to n ++ next_text feed posed (suc n) (takes (suc n)) (newest posed (legs_to feed posed takes n))
+        → text_to feed posed takes (suc n) ≡ text_to feed posed takes n ++ next_text feed posed (suc n) (takes (suc n)) (newest posed (legs_to feed posed takes n))
     text-next n =
         ap (text_of posed) (lines-next n)
         ∙ text-append posed (lines_so_far feed posed (legs_to feed posed takes n))
         (next_lines feed posed (suc n) (takes (suc n)) (newest posed (legs_to feed posed takes n)))
 
     -- begins with that of the first leg's opening
-    pub text-first : text_of posed (line.Run posed.name ∷ opening_lines feed posed (leg_begun feed posed 0 (takes 0) posed.origin)) ≡ text_to 0
+    pub text-first : text_of posed (line.Run posed.name ∷ opening_lines feed posed (leg_begun feed posed 0 (takes 0) posed.origin)) ≡ text_to feed posed takes 0
     text-first =
         let opening = opening_lines feed posed (leg_begun feed posed 0 (takes 0) posed.origin) in
         ap (λ (lines : List Line). text_of posed (line.Run posed.name ∷ lines)) (sym (append-nil opening))
@@ -155,30 +151,30 @@ module _ {Change : Type 0} (feed : Feed Change) (posed : Posed) where
     past_is zero n = omega arith
     past_is (suc more) n = let is = past_is more n in omega (arith, is)
 
-    further : (n more : ℕ) → IsFrontOf (text_to n) (text_to (past more n))
-    further n zero = record { rest = []; is = append-nil (text_to n) }
+    further : (n more : ℕ) → IsFrontOf (text_to feed posed takes n) (text_to feed posed takes (past more n))
+    further n zero = record { rest = []; is = append-nil (text_to feed posed takes n) }
     further n (suc more) =
         let front = further n more in
         let k = past more n in
         let next = next_text feed posed (suc k) (takes (suc k)) (newest posed (legs_to feed posed takes k)) in
         record {
           rest = front.rest ++ next;
-          is = sym (append_assoc (text_to n) front.rest next) ∙ ap (λ (text : List ℕ). text ++ next) front.is ∙ sym (text-next k);
+          is = sym (append_assoc (text_to feed posed takes n) front.rest next) ∙ ap (λ (text : List ℕ). text ++ next) front.is ∙ sym (text-next k);
         }
 
     pub fed_by : fed_text feed posed takes
-        ≡ text_to posed.settings.steps
+        ≡ text_to feed posed takes posed.settings.steps
         ++ text_of posed (best_lines_of posed (best_in posed (newest posed (legs_to feed posed takes posed.settings.steps))))
     unfolding fed_text
     fed_by = whole_text (legs_to feed posed takes posed.settings.steps) (has_newest posed.settings.steps)
 
-    pub front_of_all : (n : ℕ) → n ≤ posed.settings.steps → IsFrontOf (text_to n) (fed_text feed posed takes)
+    pub front_of_all : (n : ℕ) → n ≤ posed.settings.steps → IsFrontOf (text_to feed posed takes n) (fed_text feed posed takes)
     front_of_all n within =
         let steps = posed.settings.steps in
         let far : past (steps - n) n ≡ steps = past_is (steps - n) n ∙ omega (arith, within) in
-        let front = subst (λ (m : ℕ). IsFrontOf (text_to n) (text_to m)) far (further n (steps - n)) in
+        let front = subst (λ (m : ℕ). IsFrontOf (text_to feed posed takes n) (text_to feed posed takes m)) far (further n (steps - n)) in
         let best = text_of posed (best_lines_of posed (best_in posed (newest posed (legs_to feed posed takes steps)))) in
         record {
           rest = front.rest ++ best;
-          is = sym (append_assoc (text_to n) front.rest best) ∙ ap (λ (text : List ℕ). text ++ best) front.is ∙ sym fed_by;
+          is = sym (append_assoc (text_to feed posed takes n) front.rest best) ∙ ap (λ (text : List ℕ). text ++ best) front.is ∙ sym fed_by;
         }

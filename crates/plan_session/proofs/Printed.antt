@@ -15,7 +15,7 @@ later_goes_on s0 s1 s2 one two =
     record { same_tells = two.same_tells ∙ one.same_tells; later = omega (arith, one.later, two.later) }
 
 -- a sink that fails later failed
-fails_since : (s0 s1 s2 : SinkState) → LaterSink s0 s1 → SinkFails s1 s2 → SinkFails s0 s2
+pub fails_since : (s0 s1 s2 : SinkState) → LaterSink s0 s1 → SinkFails s1 s2 → SinkFails s0 s2
 fails_since s0 s1 s2 one (inl rose) = inl (omega (arith, one.later, rose))
 fails_since s0 s1 s2 one (inr full) = inr full
 
@@ -25,7 +25,7 @@ wrote_more a b s0 s1 s2 one later two tells =
     two (later.same_tells ∙ tells) ∙ ap (λ written. written ++ b) (one tells) ∙ append_assoc s0.written a b
 
 -- a text was written, and a front of another one behind it
-front_more : (a b : List ℕ) (s0 s1 s2 : SinkState) → Wrote a s0 s1 → LaterSink s0 s1 → WroteFront b s1 s2 → WroteFront (a ++ b) s0 s2
+pub front_more : (a b : List ℕ) (s0 s1 s2 : SinkState) → Wrote a s0 s1 → LaterSink s0 s1 → WroteFront b s1 s2 → WroteFront (a ++ b) s0 s2
 front_more a b s0 s1 s2 one later two tells =
     let front = two (later.same_tells ∙ tells) in
     let within : length a + front.0 ≤ length (a ++ b) = omega (arith, length-append a b, front.1) in (
@@ -36,7 +36,7 @@ front_more a b s0 s1 s2 one later two tells =
     )
 
 -- a front of a text is a front of a longer one
-front_of_more : (a rest : List ℕ) (s0 s1 : SinkState) → WroteFront a s0 s1 → WroteFront (a ++ rest) s0 s1
+pub front_of_more : (a rest : List ℕ) (s0 s1 : SinkState) → WroteFront a s0 s1 → WroteFront (a ++ rest) s0 s1
 front_of_more a rest s0 s1 wrote tells =
     let front = wrote tells in (
       front.0,

@@ -8,11 +8,11 @@ use Rattle.plan_search.specs.Posed.{Posed}
 use Rattle.plan_search.specs.RunLines.{Feed}
 use Rattle.plan_session.specs.declared.fault.PrintFault.{PrintFault}
 use Rattle.plan_session.specs.Fed.{fed_text, legs_to, newest}
-use Rattle.plan_session.specs.Live.{next_leg, next_text}
+use Rattle.plan_session.specs.Live.{next_leg, next_text, text_to}
 use Rattle.plan_session.specs.Printing.{Prints}
 use Rattle.plan_session.specs.Replayed.{IsPlaceAt, feed_of, grounds_of, lines_at, replay_text}
 use Rattle.plan_session.proofs.Begun.{failed}
-use Rattle.plan_session.proofs.Live.{newest-next, text-next, text_to}
+use Rattle.plan_session.proofs.Live.{newest-next, text-next}
 use Rattle.plan_session.proofs.Printed.{prints_front, prints_more}
 
 -- the lines of a boundary, where the first of some is looked at

@@ -66,7 +66,7 @@ posts_split [] = refl
 posts_split (post ∷ posts) = ap (λ (rest : List Post). post ∷ rest) (posts_split posts)
 
 -- lines that were read are those of the bytes
-are_posts : (posts : List Post) (bytes : List ℕ) → AreLines posts → map (λ (p : Post). p.body) posts ≡ lines_of bytes → posts ≡ posts_of bytes
+pub are_posts : (posts : List Post) (bytes : List ℕ) → AreLines posts → map (λ (p : Post). p.body) posts ≡ lines_of bytes → posts ≡ posts_of bytes
 are_posts posts bytes lines bodies =
     let long : length posts ≡ length (lines_of bytes) =
     sym (length-map posts (λ (p : Post). p.body)) ∙ ap (λ (bs : List Body). length bs) bodies in

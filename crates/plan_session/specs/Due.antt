@@ -14,6 +14,7 @@ use Rattle.plan_session.specs.declared.status.Status.TheVariants as status
 use Rattle.plan_gen.specs.Text.{problem_text}
 use Rattle.plan_words.specs.declared.command.Command.{Command}
 use Rattle.plan_words.specs.declared.command.Command.TheVariants.{Gen, Tour}
+use Rattle.plan_session.specs.DueLive.{DueBegun, DueEndless, DueLive, DueLostFeed}
 use Rattle.plan_session.specs.DueReplay.{DueJournal, DueNoFeed, DueNoJournal, DueNoProblem, DueOverlong, DueReplayProblem, DueReplayed, source_line}
 use Rattle.plan_session.specs.Ending.{Says}
 use Rattle.plan_session.specs.Run.{Run}
@@ -87,12 +88,12 @@ pub record DueTour (run : Run) (status : Status) (text : List ℕ) : Type 0 wher
   pub tours : run.tours ≡ Some (number, size)
   pub due : DueForTour run.domains run.makers run.meaning number size status text
 
--- 2: the words are no command, or none that is built
+-- 2: the words are no command
 pub record DueUsage (run : Run) (text : List ℕ) : Type 0 where
   pub unasked : run.asked ≡ None
   pub ungenerated : run.generates ≡ None
   pub untoured : run.tours ≡ None
-  pub unreplayed : run.replays ≡ None
+  pub unfed : run.feeds ≡ None
   pub says : text ≡ usage_line
 
 -- 3: the shelf failed at the problem's name, which isn't sound
@@ -112,17 +113,19 @@ pub record DueProblem (run : Run) (line : List ℕ) : Type 0 where
 
 -- the text that is due in a run under a status
 abbrev pub IsDue : Run → Status → List ℕ → Type 0
-IsDue run status.Ok text = DueOk run text ⊎ DueGenerated run text ⊎ DueTour run status.Ok text ⊎ DueReplayed run text
+IsDue run status.Ok text =
+    DueOk run text ⊎ DueGenerated run text ⊎ DueTour run status.Ok text ⊎ DueReplayed run text ⊎ DueLive run text
+IsDue run status.Memory text = DueBegun run text
 IsDue run status.Usage text = DueUsage run text
 IsDue run status.Source text = DueSource run text ⊎ DueNoProblem run text ⊎ DueNoJournal run text
 IsDue run status.Problem text = DueProblem run text ⊎ DueTour run status.Problem text ⊎ DueReplayProblem run text
-IsDue run status.Feed text = DueNoFeed run text
+IsDue run status.Feed text = DueNoFeed run text ⊎ DueLostFeed run text
 IsDue run status.Journal text = DueJournal run text
-IsDue run status.FeedTooLong text = DueOverlong run text
+IsDue run status.FeedTooLong text = DueOverlong run text ⊎ DueEndless run text
 IsDue run _ text = ⊥
 
--- what is due for a command that reads no problem: what it generates, a tour, or that it is none that is built so far
+-- what is due for a command that reads no problem: what it generates, or a tour
 abbrev pub DueUnread : List DomainView → List (List Made) → Meaning → Command → Status → List ℕ → Type 0
 DueUnread domains makers meaning (Gen number size) = Says status.Ok (generated_text number size)
 DueUnread domains makers meaning (Tour number size workers buffer) = DueForTour domains makers meaning number size
-DueUnread domains makers meaning _ = Says status.Usage usage_line
+DueUnread domains makers meaning _ = λ status text. ⊥

@@ -1,4 +1,4 @@
--- Which text is due where a run is to be done again, and under which status.
+-- Which text is due for a run with a feed, and under which status; and for one whose journal names the boundaries.
 use Rattle.std.specs.Prelude.{◌≡◌, ◌++◌, ℕ, List, Some, Ok, Err, codes, decimal, length, slice_get}
 use Rattle.plan_ports.specs.Outside.{FailsAt, Holds}
 use Rattle.move_selectors.specs.Candidates.{Made}
@@ -8,6 +8,7 @@ use Rattle.problem_faults.specs.Words.{refusal_line}
 use Rattle.plan_json.specs.Domains.{DomainView}
 use Rattle.plan_json.specs.Problem.{ProblemView, problem_of}
 use Rattle.plan_session.specs.declared.task.Files.{Files}
+use Rattle.plan_session.specs.declared.task.Timing.TheVariants as timing
 use Rattle.plan_session.specs.Posed.{posed_in}
 use Rattle.plan_session.specs.Replayed.{grounds_of, replay_text}
 use Rattle.plan_session.specs.Run.{Run}
@@ -25,11 +26,11 @@ feed_line = codes "refused feed\n"
 abbrev pub journal_line : ℕ → List ℕ
 journal_line line = codes "refused journal " ++ decimal line ++ codes "\n"
 
--- a run with these files is asked for again, and the first of them holds this problem, of this domain with these makers
+-- a run with these files is asked for, and the first of them holds this problem, of this domain with these makers
 pub record Reads (run : Run) (files : Files) (domain : DomainView) (made : List Made)
     (problem : ProblemView) : Type 0 where
   pub bytes : List ℕ
-  pub asked : run.replays ≡ Some files
+  pub asked : run.feeds ≡ Some files
   pub held : Holds run.shelf files.name bytes
   pub accepted : problem_of run.domains bytes ≡ Ok problem
   pub stands : slice_get run.domains problem.domain ≡ Some domain
@@ -43,15 +44,17 @@ pub record DueReplayed (run : Run) (text : List ℕ) : Type 0 where
   pub problem : ProblemView
   pub posts : List Post
   pub bounds : List ℕ
+  pub journal : List ℕ
+  pub again : files.timing ≡ timing.Journal journal
   pub reads : Reads run files domain made problem
   pub fed : HoldsFeed run.shelf files.feed posts
-  pub named : HoldsJournal run.shelf files.journal (length posts) problem.settings.steps (Ok bounds)
+  pub named : HoldsJournal run.shelf journal (length posts) problem.settings.steps (Ok bounds)
   pub says : text ≡ replay_text (grounds_of domain) posts bounds (posed_in run.meaning made domain problem)
 
 -- 3: the shelf failed at the problem's name, which isn't sound
 pub record DueNoProblem (run : Run) (text : List ℕ) : Type 0 where
   pub files : Files
-  pub asked : run.replays ≡ Some files
+  pub asked : run.feeds ≡ Some files
   pub fails : FailsAt files.name run.shelf run.shelf_after
   pub says : text ≡ source_line
 
@@ -62,9 +65,11 @@ pub record DueNoJournal (run : Run) (text : List ℕ) : Type 0 where
   pub made : List Made
   pub problem : ProblemView
   pub posts : List Post
+  pub journal : List ℕ
+  pub again : files.timing ≡ timing.Journal journal
   pub reads : Reads run files domain made problem
   pub fed : HoldsFeed run.shelf files.feed posts
-  pub fails : FailsAt files.journal run.shelf run.shelf_after
+  pub fails : FailsAt journal run.shelf run.shelf_after
   pub says : text ≡ source_line
 
 -- 4: the problem was read, and is refused
@@ -72,7 +77,7 @@ pub record DueReplayProblem (run : Run) (line : List ℕ) : Type 0 where
   pub files : Files
   pub bytes : List ℕ
   pub fault : ProblemFault
-  pub asked : run.replays ≡ Some files
+  pub asked : run.feeds ≡ Some files
   pub held : Holds run.shelf files.name bytes
   pub refused : problem_of run.domains bytes ≡ Err fault
   pub says : line ≡ refusal_line fault
@@ -95,9 +100,11 @@ pub record DueJournal (run : Run) (text : List ℕ) : Type 0 where
   pub problem : ProblemView
   pub posts : List Post
   pub line : ℕ
+  pub journal : List ℕ
+  pub again : files.timing ≡ timing.Journal journal
   pub reads : Reads run files domain made problem
   pub fed : HoldsFeed run.shelf files.feed posts
-  pub refused : HoldsJournal run.shelf files.journal (length posts) problem.settings.steps (Err line)
+  pub refused : HoldsJournal run.shelf journal (length posts) problem.settings.steps (Err line)
   pub says : text ≡ journal_line line
 
 -- 8: the problem was read, and the feed has too many lines or bytes

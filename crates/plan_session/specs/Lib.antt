@@ -2,12 +2,16 @@ pub mod Asking
 pub mod Begun
 pub mod Course
 pub mod Due
+pub mod DueLive
 pub mod DueReplay
 pub mod Ending
 pub mod Explained
 pub mod Fed
 pub mod Live
+pub mod LiveFaults
+pub mod LiveRuns
 pub mod Nowhere
+pub mod Origins
 pub mod Posed
 pub mod Printing
 pub mod Replayed

@@ -1,6 +1,6 @@
 -- A run whose boundaries take lines of a feed, leg by leg: where it stands before a step, and what a step and the boundary behind
 -- it make of it.
-use Rattle.std.specs.Prelude.{◌≡◌, ℕ, suc, List, [], ◌∷◌, map}
+use Rattle.std.specs.Prelude.{◌≡◌, ◌++◌, ℕ, suc, List, [], ◌∷◌, map}
 use Rattle.plan_changes.specs.Fits.{IsOfSchema, Shape, shape_in}
 use Rattle.plan_reports.specs.declared.line.Line.{Line}
 use Rattle.plan_search.specs.Leg.{Leg, leg_from, state_of}
@@ -10,8 +10,8 @@ use Rattle.score_director.specs.View.{DirectorView, at_rest}
 use Rattle.move_workers.specs.Judging.{WorkerView}
 use Rattle.search_core.specs.declared.machine.Core.{Core}
 use Rattle.plan_session.specs.declared.best.BestSoFar.{BestSoFar}
-use Rattle.plan_session.specs.Course.{BareLeg, IsDecider, IsInCourse, IsMade, best_in, gone_on, line_in}
-use Rattle.plan_session.specs.Fed.{bare}
+use Rattle.plan_session.specs.Course.{BareLeg, IsDecider, IsInCourse, IsMade, best_in, gone_on, line_in, step_text}
+use Rattle.plan_session.specs.Fed.{bare, legs_to, lines_so_far, newest}
 
 -- what the steps of a leg leave alone: names, weights, and the shapes of classes
 pub record Frame : Type 0 where
@@ -88,3 +88,15 @@ module _ {Change : Type 0} (feed : Feed Change) (posed : Posed) where
 
   abbrev pub next_text : ℕ → List Change → BareLeg → List ℕ
   next_text k lines leg = text_of posed (next_lines k lines leg)
+
+  -- the text of a run up to a boundary, by what each boundary takes
+  abbrev pub text_to : (ℕ → List Change) → ℕ → List ℕ
+  text_to takes n = text_of posed (lines_so_far feed posed (legs_to feed posed takes n))
+
+  -- the newest leg with the step behind a boundary
+  abbrev pub made_leg : (ℕ → List Change) → ℕ → BareLeg
+  made_leg takes n = gone_on posed (suc n) (newest posed (legs_to feed posed takes n))
+
+  -- the text of a run up to that step
+  abbrev pub text_made : (ℕ → List Change) → ℕ → List ℕ
+  text_made takes n = text_to takes n ++ step_text posed (suc n) (newest posed (legs_to feed posed takes n))

@@ -1,4 +1,4 @@
--- How far a run came that does a run again.
+-- How far a run with a feed came.
 use Rattle.std.specs.Prelude.{◌≡◌, List, Some}
 use Rattle.plan_ports.specs.Outside.{LaterShelf, ShelfState}
 use Rattle.plan_rules.specs.Meaning.{Meaning}
@@ -9,15 +9,15 @@ use Rattle.plan_session.specs.declared.task.Files.{Files}
 use Rattle.plan_session.specs.DueReplay.{Reads}
 use Rattle.plan_session.specs.Run.{Run}
 
--- a run that was asked to do a run with these files again, over these domains with their makers and what closures mean
-pub record AsksAgain (domains : List DomainView) (makers : List (List Made)) (meaning : Meaning)
+-- a run with these files was asked for, over these domains with their makers and what closures mean
+pub record AsksFeed (domains : List DomainView) (makers : List (List Made)) (meaning : Meaning)
     (files : Files) (run : Run) : Type 0 where
-  pub asked : run.replays ≡ Some files
+  pub asked : run.feeds ≡ Some files
   pub domains_are : run.domains ≡ domains
   pub makers_are : run.makers ≡ makers
   pub means : run.meaning ≡ meaning
 
--- a run that read this problem to do a run with these files again
+-- a run with these files that read this problem
 pub record HasProblem (meaning : Meaning) (made : List Made) (domain : DomainView) (problem : ProblemView)
     (files : Files) (run : Run) : Type 0 where
   pub means : run.meaning ≡ meaning

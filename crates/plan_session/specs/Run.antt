@@ -8,13 +8,13 @@ use Rattle.plan_session.specs.declared.task.Files.{Files}
 use Rattle.plan_session.specs.Task.{Task}
 
 -- a run: what its words ask for of a problem, the number and the size of the problem that they ask to generate, and of the one
--- of whose run they ask for the sum, the files of the run that they ask to do again, the domains that problems may be of, the
+-- of whose run they ask for the sum, the files of the run with a feed that they ask for, the domains that problems may be of, the
 -- makers of moves of each, what the closures of their rules mean, and its shelf before and after it
 pub record Run : Type 0 where
   pub asked : Option Task
   pub generates : Option (ℕ × ℕ)
   pub tours : Option (ℕ × ℕ)
-  pub replays : Option Files
+  pub feeds : Option Files
   pub domains : List DomainView
   pub makers : List (List Made)
   pub meaning : Meaning

@@ -8,6 +8,8 @@ use Rattle.plan_search.specs.RunLines.{score_text, solve_text}
 use Rattle.plan_session.specs.Explained.{explain_text}
 use Rattle.plan_session.specs.Toured.{tour_text}
 use Rattle.plan_session.specs.declared.task.Files.{Files}
+use Rattle.plan_session.specs.declared.task.Timing.{Timing}
+use Rattle.plan_session.specs.declared.task.Timing.TheVariants as timing
 use Rattle.plan_session.specs.declared.task.Wanted.{Wanted}
 use Rattle.plan_session.specs.declared.task.Wanted.TheVariants as want
 
@@ -61,18 +63,28 @@ toured_by (Tour number size workers buffer) = Some (number, size)
 unfoldable pub tour_asked : List (List ℕ) → Option (ℕ × ℕ)
 tour_asked words = option_and_then toured_by (command words)
 
--- the files of the run that a command asks to do again
-abbrev pub replayed_by : Command → Option Files
-replayed_by (Solve name feed workers buffer) = None
-replayed_by (Replay name feed journal) = Some (record { name = name; feed = feed; journal = journal })
-replayed_by (Score name) = None
-replayed_by (Explain name) = None
-replayed_by (Gen number size) = None
-replayed_by (Tour number size workers buffer) = None
+-- the files of the run with a feed that a command asks for
+abbrev pub fed_by : Command → Option Files
+fed_by (Solve name None workers buffer) = None
+fed_by (Solve name (Some feed) workers buffer) = Some (record {
+  name = name;
+  feed = feed;
+  timing = timing.Live (record { workers = workers; buffer = buffer });
+})
+fed_by (Replay name feed journal) = Some (record { name = name; feed = feed; timing = timing.Journal journal })
+fed_by (Score name) = None
+fed_by (Explain name) = None
+fed_by (Gen number size) = None
+fed_by (Tour number size workers buffer) = None
 
--- the files of the run that the words ask to do again; none where they ask for something else
-unfoldable pub replay_asked : List (List ℕ) → Option Files
-replay_asked words = option_and_then replayed_by (command words)
+-- the files of the run with a feed that the words ask for; none where they ask for something else
+unfoldable pub files_asked : List (List ℕ) → Option Files
+files_asked words = option_and_then fed_by (command words)
+
+-- the numbers of workers, and of candidates at once, are in their range
+abbrev pub IsTimely : Timing → Type 0
+IsTimely (timing.Live hands) = AreHands hands.workers hands.buffer
+IsTimely (timing.Journal name) = Unit {0}
 
 -- the text that is wanted of a posed problem: the same for all workers
 abbrev pub text_wanted : Wanted → Posed → List ℕ

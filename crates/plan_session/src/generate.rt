@@ -1,9 +1,10 @@
-ghost use Rattle.std.specs.Prelude.{◌≡◌, ◌≤◌, ◌++◌, All, OnOk, map};
+ghost use Rattle.std.specs.Prelude.{◌≡◌, ◌≤◌, ◌++◌, All, None, OnOk, map};
 ghost use Rattle.plan_json.specs.Seen.{domain_views};
 ghost use Rattle.plan_ports.specs.Outside.{LaterSink};
 ghost use Rattle.plan_words.specs.Command.{AreHands, IsSized};
 ghost use Rattle.plan_session.specs.Due.{DueForTour, DueUnread, generated_text};
 ghost use Rattle.plan_session.specs.Ending.{Ended, Says};
+ghost use Rattle.plan_session.specs.Task.{fed_by, task_of};
 
 use crate::answer::answer;
 use crate::outside::say;
@@ -81,7 +82,7 @@ fn tour<T: Threads + Sync, B: Book, K: Sink, G: Gate + Sync>(
     }
 }
 
-/// Writes what is due for a command that reads no problem: what it generates, the sum of a tour, or that it isn't built yet.
+/// Writes what is due for a command that reads no problem: what it generates, or the sum of a tour.
 pub fn answer_unread<T: Threads + Sync, B: Book, K: Sink, G: Gate + Sync>(
     rt: &T,
     alloc: Global,
@@ -91,6 +92,7 @@ pub fn answer_unread<T: Threads + Sync, B: Book, K: Sink, G: Gate + Sync>(
     out: &mut K,
 ) -> Status
     requires sized { IsSized command.now }
+    requires unread { (task_of command.now ≡ None) × (fed_by command.now ≡ None) }
     requires keeps { All (λ domain. ⟦<Rules<B> as Kept>⟧.keeps domain.rules) domains.now }
     ensures ended { let makers = map (λ d. map (λ m. (⟦<dyn Maker as Maker>⟧ m.vtable).made m.value)
         d.makers.items) domains.now in
@@ -112,6 +114,6 @@ pub fn answer_unread<T: Threads + Sync, B: Book, K: Sink, G: Gate + Sync>(
             };
             tour(rt, alloc, gate, *number, *size, hands, domains, out)
         }
-        _ => say(out, Status::Usage, b"refused usage\n"),
+        _ => unreachable!(),
     }
 }

@@ -8,27 +8,27 @@ ghost use Rattle.plan_json.specs.Seen.{domain_view};
 ghost use Rattle.plan_rules.specs.Range.{sizes_of};
 ghost use Rattle.plan_search.specs.Posed.{Posed};
 ghost use Rattle.plan_settings.specs.Settings.{IsInRange};
-ghost use Rattle.score_director.specs.View.{at_rest};
 ghost use Rattle.search_core.specs.Desk.{begins_leg};
 ghost use Rattle.search_core.specs.Keeps.{terms_of};
+ghost use Rattle.plan_words.specs.Command.{AreHands};
 ghost use Rattle.plan_session.specs.Begun.{IsPosedBy};
-ghost use Rattle.plan_session.specs.Course.{BareLeg, IsEnded, IsQuiet, best_in};
+ghost use Rattle.plan_session.specs.Course.{BareLeg, IsEnded, IsQuiet, best_in, gone_on, step_text};
 ghost use Rattle.plan_session.specs.Fed.{bare};
 ghost use Rattle.plan_session.specs.Live.{IsLive, IsLiveMade, IsOpened, leg_begun, leg_behind, next_leg, next_text, opening_text, text_behind};
 ghost use Rattle.plan_session.specs.Printing.{Prints};
 ghost use Rattle.plan_session.specs.Replayed.{feed_of};
 
 use crate::best::{BestSoFar, lead_director};
-use crate::events::begin_leg;
+use crate::events::{begin_leg, new_core};
 use crate::fault::PrintFault;
 use crate::printing::print_line;
 use crate::report::Report;
-use crate::searching::{place_on, print_opening};
+use crate::searching::{Hands, place_on, print_opening};
 use crate::steps::{make_step, pass};
 use live_lines::take_alone;
-use move_workers::{Kit, Team};
+use move_workers::{Kit, Team, director_alone};
 use plan_changes::Post;
-use plan_facts::{List, Memory, Names};
+use plan_facts::{List, Memory, Names, Plan};
 use plan_json::Domain;
 use plan_moves::MoveMaker as Maker;
 use plan_ports::{Gate, Sink};
@@ -43,6 +43,14 @@ use std::thread::Threads;
 /// The most names that a plan has before it takes lines: there is room for 16 more of each of 4,096 lines. No problem has
 /// nearly as many.
 const MOST_NAMES: u32 = 999_000_000;
+
+/// What a run begins with: the plan as read, the names that stand in it, and the weights of rules.
+#[derive(Drop)]
+pub struct Origin {
+    pub plan: Plan,
+    pub names: Names,
+    pub weights: List<u32>,
+}
 
 /// A run in course: the core, the team of so many workers on the state of the newest leg, the best of that leg, and the names
 /// that stand in its plan.
@@ -99,7 +107,7 @@ fn take_posts<B: Book>(
 
 /// Begins a leg at a boundary: takes lines of a feed on a director, places what is null, and has the core begin. Prints the
 /// lines of the leg up to its start score.
-pub fn open_leg<B: Book, K: Sink>(
+fn open_leg<B: Book, K: Sink>(
     alloc: Global,
     domain: &Domain<B>,
     settings: &Settings,
@@ -151,7 +159,7 @@ pub fn open_leg<B: Book, K: Sink>(
 }
 
 /// A run in course before the first step of a leg that begins, with so many workers on its director's plan.
-pub fn run_from<B: Book>(
+fn run_from<B: Book>(
     alloc: Global,
     domain: &Domain<B>,
     settings: &Settings,
@@ -191,6 +199,71 @@ pub fn run_from<B: Book>(
         best,
         names,
     })
+}
+
+/// Begins the first leg of a run, which takes lines of a feed on the plan as read, with its names and weights. So many workers
+/// are on it then.
+pub fn first_leg<B: Book, K: Sink>(
+    alloc: Global,
+    domain: &Domain<B>,
+    settings: &Settings,
+    hands: Hands,
+    plan: Plan,
+    names: Names,
+    weights: List<u32>,
+    posts: &[Post],
+    buffer: &mut Vec<u8>,
+    out: &mut K,
+) -> Result<Running<B>, PrintFault>
+    requires judges { ⟦<Rules<B> as Judges>⟧.judges domain.now.rules weights (sizes_of plan) }
+    requires in_range { IsInRange settings.now }
+    requires hands { AreHands hands.workers hands.buffer }
+    requires schema { IsOfSchema domain.now.schema plan }
+    requires few { length posts.now ≤ most_lines }
+    requires lines { All (λ post. is_stop post.body ≡ false) posts.now }
+    requires empty { buffer.old.items ≡ [] }
+    ensures emptied { OnOk result (buffer.new.items ≡ []) }
+    ensures prints { (makers : List Made) (posed : Posed)
+        → IsPosedBy B.meaning makers (domain_view domain.now) settings.now posed
+        → record { plan = plan; names = names; weights = weights } ≡ posed.origin
+        → let text = opening_text (feed_of (domain_view domain.now)) posed 0 (taken_at 0 posts.now) posed.origin in
+        Prints result text (K.state out.old) (K.state out.new) }
+    ensures live { IfOk result (λ running. (makers : List Made) (posed : Posed)
+        → IsPosedBy B.meaning makers (domain_view domain.now) settings.now posed
+        → record { plan = plan; names = names; weights = weights } ≡ posed.origin
+        → let leg = leg_begun (feed_of (domain_view domain.now)) posed 0 (taken_at 0 posts.now) posed.origin in
+        IsLive running.core running.team.worker running.best running.names posed 1 (bare leg)) }
+    ensures judges { IfOk result (λ running. let seen = running.team.worker.director in
+        ⟦<Rules<B> as Judges>⟧.judges domain.now.rules seen.weights (sizes_of seen.plan)) }
+    ensures whole { IfOk result (λ running. running.team.is_torn ≡ false) }
+    ensures quiet { IfOk result (λ running. IsQuiet running.core) }
+    ensures workers { IfOk result (λ running. running.workers ≡ hands.workers) }
+{
+    let mut director = director_alone(alloc, &domain.rules, plan, weights)?;
+    let mut names = names;
+    let mut core = new_core(alloc, settings, hands.asked())?;
+    open_leg(
+        alloc,
+        domain,
+        settings,
+        0,
+        posts,
+        &mut director,
+        &mut names,
+        &mut core,
+        buffer,
+        out,
+    )?;
+    let running = run_from(
+        alloc,
+        domain,
+        settings,
+        hands.workers,
+        core,
+        director,
+        names,
+    )?;
+    Ok(running)
 }
 
 /// Goes over to the leg that begins at a boundary: it takes lines of a feed on the best plan so far.
@@ -262,7 +335,7 @@ fn begin_next<B: Book, K: Sink>(
 }
 
 /// Cuts the boundary behind a step that was made: a leg begins there where it takes lines of a feed.
-fn cross<B: Book, K: Sink>(
+pub fn cross<B: Book, K: Sink>(
     alloc: Global,
     domain: &Domain<B>,
     settings: &Settings,
@@ -310,6 +383,69 @@ fn cross<B: Book, K: Sink>(
     }
     let mut running = running;
     pass(&mut running.core, boundary)?;
+    Ok(running)
+}
+
+/// Does the step under a number, and prints its line. The boundary behind it is to be cut then.
+pub fn advance<T: Threads + Sync, B: Book, K: Sink, G: Gate + Sync>(
+    rt: &T,
+    gate: &G,
+    domain: &Domain<B>,
+    settings: &Settings,
+    running: Running<B>,
+    step: u32,
+    buffer: &mut Vec<u8>,
+    out: &mut K,
+) -> Result<Running<B>, PrintFault>
+    requires whole { running.team.is_torn ≡ false }
+    requires quiet { IsQuiet running.core }
+    requires judges { let seen = running.team.worker.director in
+        ⟦<Rules<B> as Judges>⟧.judges domain.now.rules seen.weights (sizes_of seen.plan) }
+    requires live { let makes = map (λ m. (⟦<dyn Maker as Maker>⟧ m.vtable).made m.value) domain.now.makers.items in
+        (posed : Posed) × (leg : BareLeg)
+        × IsPosedBy B.meaning makes (domain_view domain.now) settings.now posed
+        × IsLive running.core running.team.worker running.best running.names posed step leg }
+    requires step { 1 ≤ step }
+    requires within { step ≤ settings.now.steps }
+    requires empty { buffer.old.items ≡ [] }
+    ensures emptied { OnOk result (buffer.new.items ≡ []) }
+    ensures prints { let makes = map (λ m. (⟦<dyn Maker as Maker>⟧ m.vtable).made m.value) domain.now.makers.items in
+        (posed : Posed) (leg : BareLeg)
+        → IsPosedBy B.meaning makes (domain_view domain.now) settings.now posed
+        → IsLive running.core running.team.worker running.best running.names posed step leg
+        → Prints result (step_text posed step leg) (K.state out.old) (K.state out.new) }
+    ensures made { let makes = map (λ m. (⟦<dyn Maker as Maker>⟧ m.vtable).made m.value) domain.now.makers.items in
+        IfOk result (λ next. (posed : Posed) (leg : BareLeg)
+        → IsPosedBy B.meaning makes (domain_view domain.now) settings.now posed
+        → IsLive running.core running.team.worker running.best running.names posed step leg
+        → IsLiveMade next.core next.team.worker next.best next.names posed step (gone_on posed step leg)) }
+    ensures judges { IfOk result (λ next. let seen = next.team.worker.director in
+        ⟦<Rules<B> as Judges>⟧.judges domain.now.rules seen.weights (sizes_of seen.plan)) }
+    ensures whole { IfOk result (λ next. next.team.is_torn ≡ false) }
+    ensures workers { IfOk result (λ next. next.workers ≡ running.workers) }
+{
+    let kit = Kit {
+        rules: &domain.rules,
+        schema: &domain.schema,
+        makers: &domain.makers,
+        selectors: settings.selectors.as_slice(),
+        seed: settings.seed,
+    };
+    let report = Report {
+        schema: &domain.schema,
+        rules: domain.rules.defs.as_slice(),
+    };
+    let mut running = running;
+    let line = make_step(
+        rt,
+        &kit,
+        gate,
+        &mut running.core,
+        &mut running.team,
+        &mut running.best,
+        step,
+    )?;
+    print_line(&report, &line, buffer, out)?;
     Ok(running)
 }
 
@@ -361,27 +497,6 @@ pub fn go_on<T: Threads + Sync, B: Book, K: Sink, G: Gate + Sync>(
     ensures quiet { IfOk result (λ next. IsQuiet next.core) }
     ensures workers { IfOk result (λ next. next.workers ≡ running.workers) }
 {
-    let kit = Kit {
-        rules: &domain.rules,
-        schema: &domain.schema,
-        makers: &domain.makers,
-        selectors: settings.selectors.as_slice(),
-        seed: settings.seed,
-    };
-    let report = Report {
-        schema: &domain.schema,
-        rules: domain.rules.defs.as_slice(),
-    };
-    let mut running = running;
-    let line = make_step(
-        rt,
-        &kit,
-        gate,
-        &mut running.core,
-        &mut running.team,
-        &mut running.best,
-        step,
-    )?;
-    print_line(&report, &line, buffer, out)?;
+    let running = advance(rt, gate, domain, settings, running, step, buffer, out)?;
     cross(alloc, domain, settings, running, step, posts, buffer, out)
 }

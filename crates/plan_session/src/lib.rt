@@ -4,13 +4,17 @@
 mod answer;
 mod best;
 mod deciding;
+mod driving;
 mod events;
 mod explaining;
 mod fault;
+mod fed_files;
 mod fetching;
 mod generate;
 mod journal;
+mod leading;
 mod legs;
+mod live_fault;
 mod nowhere;
 mod outside;
 mod printing;
@@ -25,5 +29,7 @@ mod text;
 mod top;
 mod touring;
 
+pub use driving::{Driven, drive};
+pub use searching::Hands;
 pub use status::Status;
 pub use top::run;

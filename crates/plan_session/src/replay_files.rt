@@ -1,21 +1,22 @@
-//! The way from the names of a replay's files to what is due: the problem is read and judged, then the feed is read, then the
-//! journal is read and judged, then the run is done again. The first of them that is refused ends it.
+//! The way from a problem that was read to what is due for a replay: its feed is read, then the journal is read and judged, then
+//! the run is done again. The first of them that is refused ends it.
 
-ghost use Rattle.std.specs.Prelude.{◌≡◌, ◌≤◌, ◌^◌, All, None, Some, length, map};
+ghost use Rattle.std.specs.Prelude.{◌≡◌, ◌≤◌, ◌^◌, ℕ, List, length, map};
 ghost use Rattle.live_lines.specs.Reading.{AreLines};
 ghost use Rattle.plan_changes.specs.Fits.{IsOfSchema};
 ghost use Rattle.plan_json.specs.Accepted.{problem_view};
-ghost use Rattle.plan_json.specs.Seen.{domain_view, domain_views};
+ghost use Rattle.plan_json.specs.Seen.{domain_view};
 ghost use Rattle.plan_ports.specs.Outside.{Holds, LaterShelf, LaterSink};
 ghost use Rattle.plan_rules.specs.Range.{sizes_of};
 ghost use Rattle.plan_settings.specs.Settings.{IsInRange};
 ghost use Rattle.plan_session.specs.Due.{IsDue};
 ghost use Rattle.plan_session.specs.Ending.{Ended};
-ghost use Rattle.plan_session.specs.Replaying.{AsksAgain, HasProblem, Spans};
+ghost use Rattle.plan_session.specs.Replaying.{HasProblem, Spans};
 ghost use Rattle.plan_session.specs.Run.{Run};
 ghost use Rattle.plan_session.specs.Sources.{HoldsFeed};
+ghost use Rattle.plan_session.specs.declared.task.Timing.TheVariants as timing;
 
-use crate::answer::{refuse, status_of};
+use crate::answer::status_of;
 use crate::fetching::fetch_feed;
 use crate::journal::refuse_journal;
 use crate::outside::{fetch, say};
@@ -24,11 +25,11 @@ use crate::status::Status;
 use crate::task::Files;
 use change_feed::FeedFault;
 use plan_changes::Post;
-use plan_json::{BYTE_LIMIT, Domain, Problem, read_problem};
+use plan_facts::Text;
+use plan_json::{Domain, Problem};
 use plan_moves::MoveMaker as Maker;
 use plan_ports::{Gate, ReadFault, Shelf, Sink};
-use plan_rules::{Book, Judges, Kept, Rules};
-use problem_faults::ProblemFault;
+use plan_rules::{Book, Judges, Rules};
 use run_journal::{JournalFault, bounds_of};
 use std::alloc::Global;
 use std::thread::Threads;
@@ -54,8 +55,8 @@ fn replay_journal<T: Threads + Sync, B: Book, K: Sink, G: Gate + Sync>(
     requires short { length bytes.now ≤ 2 ^ 30 }
     ensures ended { let makes = map (λ m. (⟦<dyn Maker as Maker>⟧ m.vtable).made m.value) domain.now.makers.items in
         let is_ready = HasProblem B.meaning makes (domain_view domain.now) (problem_view problem) in
-        (run : Run) (files : Files) → is_ready files run
-        → HoldsFeed run.shelf files.feed posts.now → Holds run.shelf files.journal bytes.now
+        (run : Run) (files : Files) (journal : List ℕ) → is_ready files run → files.timing ≡ timing.Journal journal
+        → HoldsFeed run.shelf files.feed posts.now → Holds run.shelf journal bytes.now
         → Ended (IsDue run) (K.state out.old) (K.state out.new) result }
     ensures later { LaterSink (K.state out.old) (K.state out.new) }
 {
@@ -76,6 +77,7 @@ fn replay_lines<T: Threads + Sync, B: Book, S: Shelf, K: Sink, G: Gate + Sync>(
     alloc: Global,
     gate: &G,
     files: &Files,
+    journal: &Text,
     domain: &Domain<B>,
     problem: Problem,
     posts: &[Post],
@@ -86,6 +88,7 @@ fn replay_lines<T: Threads + Sync, B: Book, S: Shelf, K: Sink, G: Gate + Sync>(
     requires in_range { IsInRange problem.settings }
     requires schema { IsOfSchema domain.now.schema problem.plan }
     requires lines { AreLines posts.now }
+    requires again { files.now.timing ≡ timing.Journal journal.now }
     ensures ended { let makes = map (λ m. (⟦<dyn Maker as Maker>⟧ m.vtable).made m.value) domain.now.makers.items in
         let is_ready = HasProblem B.meaning makes (domain_view domain.now) (problem_view problem) files.now in
         (run : Run) → is_ready run → HoldsFeed run.shelf files.now.feed posts.now
@@ -95,7 +98,7 @@ fn replay_lines<T: Threads + Sync, B: Book, S: Shelf, K: Sink, G: Gate + Sync>(
     ensures shelf { LaterShelf (S.state shelf.old) (S.state shelf.new) }
     ensures sink { LaterSink (K.state out.old) (K.state out.new) }
 {
-    match fetch(alloc, shelf, files.journal.as_slice(), JOURNAL_LIMIT) {
+    match fetch(alloc, shelf, journal.as_slice(), JOURNAL_LIMIT) {
         Ok(bytes) => replay_journal(rt, alloc, gate, domain, problem, posts, &bytes, out),
         Err(ReadFault::Memory) => Status::Memory,
         Err(ReadFault::Failed) => say(out, Status::Source, b"refused source\n"),
@@ -104,11 +107,12 @@ fn replay_lines<T: Threads + Sync, B: Book, S: Shelf, K: Sink, G: Gate + Sync>(
 }
 
 /// Reads the feed, then the journal, and does the run again.
-fn replay_problem<T: Threads + Sync, B: Book, S: Shelf, K: Sink, G: Gate + Sync>(
+pub fn replay_problem<T: Threads + Sync, B: Book, S: Shelf, K: Sink, G: Gate + Sync>(
     rt: &T,
     alloc: Global,
     gate: &G,
     files: &Files,
+    journal: &Text,
     domain: &Domain<B>,
     problem: Problem,
     shelf: &mut S,
@@ -117,6 +121,7 @@ fn replay_problem<T: Threads + Sync, B: Book, S: Shelf, K: Sink, G: Gate + Sync>
     requires judges { ⟦<Rules<B> as Judges>⟧.judges domain.now.rules problem.weights (sizes_of problem.plan) }
     requires in_range { IsInRange problem.settings }
     requires schema { IsOfSchema domain.now.schema problem.plan }
+    requires again { files.now.timing ≡ timing.Journal journal.now }
     ensures ended { let makes = map (λ m. (⟦<dyn Maker as Maker>⟧ m.vtable).made m.value) domain.now.makers.items in
         let is_ready = HasProblem B.meaning makes (domain_view domain.now) (problem_view problem) files.now in
         (run : Run) → is_ready run → Spans run (S.state shelf.old) (S.state shelf.new)
@@ -126,78 +131,11 @@ fn replay_problem<T: Threads + Sync, B: Book, S: Shelf, K: Sink, G: Gate + Sync>
     ensures sink { LaterSink (K.state out.old) (K.state out.new) }
 {
     match fetch_feed(alloc, shelf, files.feed.as_slice()) {
-        Ok(posts) => replay_lines(rt, alloc, gate, files, domain, problem, &posts, shelf, out),
+        Ok(posts) => replay_lines(
+            rt, alloc, gate, files, journal, domain, problem, &posts, shelf, out,
+        ),
         Err(FeedFault::Memory) => Status::Memory,
         Err(FeedFault::ReadFault) => say(out, Status::Feed, b"refused feed\n"),
         Err(FeedFault::Overrun) => say(out, Status::FeedTooLong, b"refused feed\n"),
-    }
-}
-
-/// Judges the bytes of the problem, then reads the feed and the journal, and does the run again.
-fn replay_bytes<T: Threads + Sync, B: Book, S: Shelf, K: Sink, G: Gate + Sync>(
-    rt: &T,
-    alloc: Global,
-    gate: &G,
-    files: &Files,
-    bytes: &[u8],
-    shelf: &mut S,
-    out: &mut K,
-    domains: &[Domain<B>],
-) -> Status
-    requires keeps { All (λ domain. ⟦<Rules<B> as Kept>⟧.keeps domain.rules) domains.now }
-    ensures ended { let makers = map (λ d. map (λ m. (⟦<dyn Maker as Maker>⟧ m.vtable).made m.value)
-        d.makers.items) domains.now in
-        (run : Run) → AsksAgain (domain_views domains.now) makers B.meaning files.now run
-        → Holds run.shelf files.now.name bytes.now → Spans run (S.state shelf.old) (S.state shelf.new)
-        → Ended (IsDue run) (K.state out.old) (K.state out.new) result }
-    ensures given_back { (S.state shelf.new).lent ≡ (S.state shelf.old).lent }
-    ensures shelf { LaterShelf (S.state shelf.old) (S.state shelf.new) }
-    ensures sink { LaterSink (K.state out.old) (K.state out.new) }
-{
-    match read_problem(alloc, bytes, domains) {
-        Ok(problem) => {
-            let Some(domain) = domains.get(problem.domain) else {
-                unreachable!();
-            };
-            replay_problem(rt, alloc, gate, files, domain, problem, shelf, out)
-        }
-        Err(ProblemFault::Memory) => Status::Memory,
-        Err(fault) => refuse(alloc, &fault, out),
-    }
-}
-
-/// Reads the problem, the feed and the journal of a run, in this order, and writes the run that they tell; or the line that
-/// refuses the first of them that is refused.
-pub fn replay_files<T: Threads + Sync, B: Book, S: Shelf, K: Sink, G: Gate + Sync>(
-    rt: &T,
-    alloc: Global,
-    gate: &G,
-    files: &Files,
-    shelf: &mut S,
-    out: &mut K,
-    domains: &[Domain<B>],
-) -> Status
-    requires keeps { All (λ domain. ⟦<Rules<B> as Kept>⟧.keeps domain.rules) domains.now }
-    ensures ended { let run : Run = record {
-      asked = None;
-      generates = None;
-      tours = None;
-      replays = Some files.now;
-      domains = domain_views domains.now;
-      makers = map (λ d. map (λ m. (⟦<dyn Maker as Maker>⟧ m.vtable).made m.value) d.makers.items) domains.now;
-      meaning = B.meaning;
-      shelf = S.state shelf.old;
-      shelf_after = S.state shelf.new;
-    } in
-        Ended (IsDue run) (K.state out.old) (K.state out.new) result }
-    ensures given_back { (S.state shelf.new).lent ≡ (S.state shelf.old).lent }
-    ensures shelf { LaterShelf (S.state shelf.old) (S.state shelf.new) }
-    ensures sink { LaterSink (K.state out.old) (K.state out.new) }
-{
-    match fetch(alloc, shelf, files.name.as_slice(), BYTE_LIMIT) {
-        Ok(bytes) => replay_bytes(rt, alloc, gate, files, &bytes, shelf, out, domains),
-        Err(ReadFault::Memory) => Status::Memory,
-        Err(ReadFault::Failed) => say(out, Status::Source, b"refused source\n"),
-        Err(ReadFault::TooLong) => say(out, Status::Problem, b"refused problem too_long\n"),
     }
 }

@@ -22,11 +22,9 @@ ghost use Rattle.plan_session.specs.Printing.{Prints};
 ghost use Rattle.plan_session.specs.Replayed.{IsPlaceAt, feed_of, grounds_of, replay_text};
 
 use crate::best::lead_back;
-use crate::events::new_core;
 use crate::fault::PrintFault;
-use crate::legs::{Running, go_on, open_leg, run_from};
-use crate::searching::{print_best, print_run};
-use move_workers::director_alone;
+use crate::legs::{Running, first_leg, go_on};
+use crate::searching::{Hands, print_best, print_run};
 use plan_changes::Post;
 use plan_facts::{List, Names, Plan};
 use plan_json::{Domain, Problem};
@@ -36,6 +34,12 @@ use plan_rules::{Book, Judges, Rules};
 use plan_settings::Settings;
 use std::alloc::Global;
 use std::thread::Threads;
+
+/// One worker alone.
+const ALONE: Hands = Hands {
+    workers: 1,
+    buffer: 1,
+};
 
 /// Behind the lines from a place on that are taken at a boundary.
 fn end_of(bounds: &[u32], from: usize, boundary: u32) -> usize
@@ -98,27 +102,13 @@ fn begin_run<B: Book, K: Sink>(
     ensures workers { IfOk result (λ running. running.workers ≡ 1) }
 {
     print_run(alloc, domain, buffer, out)?;
-    let mut director = director_alone(alloc, &domain.rules, plan, weights)?;
-    let mut names = names;
-    let mut core = new_core(alloc, settings, 1)?;
-    open_leg(
-        alloc,
-        domain,
-        settings,
-        0,
-        posts,
-        &mut director,
-        &mut names,
-        &mut core,
-        buffer,
-        out,
-    )?;
-    let running = run_from(alloc, domain, settings, 1, core, director, names)?;
-    Ok(running)
+    first_leg(
+        alloc, domain, settings, ALONE, plan, names, weights, posts, buffer, out,
+    )
 }
 
 /// Prints the best plan of a run that is at its end.
-fn print_end<B: Book, K: Sink>(
+pub fn print_end<B: Book, K: Sink>(
     alloc: Global,
     domain: &Domain<B>,
     running: Running<B>,

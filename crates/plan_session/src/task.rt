@@ -1,6 +1,6 @@
 ghost use Rattle.std.specs.Prelude.{◌≡◌, IfOk, IfSome, option_map};
 ghost use Rattle.plan_words.specs.Command.{IsSized};
-ghost use Rattle.plan_session.specs.Task.{IsFit, replayed_by, task, task_of};
+ghost use Rattle.plan_session.specs.Task.{IsFit, IsTimely, fed_by, task, task_of};
 
 use crate::searching::Hands;
 use plan_facts::{Memory, Text};
@@ -24,16 +24,25 @@ pub enum Wanted {
     },
 }
 
-/// The names of the files of a run that is done again: its problem, its feed and its journal.
+/// At which boundaries a run takes the lines of its feed.
+#[derive(Debug, Drop)]
+pub enum Timing {
+    /// As they come, while so many workers search.
+    Live(Hands),
+    /// As the journal of this name says.
+    Journal(Text),
+}
+
+/// The names of the files of a run with a feed, its problem and its feed, and when it takes the lines.
 #[derive(Debug, Drop)]
 pub struct Files {
     pub name: Text,
     pub feed: Text,
-    pub journal: Text,
+    pub timing: Timing,
 }
 
-/// The name of the problem that a command reads, and what it wants of it; none for a command that reads none, that reads
-/// other files too, or that isn't built yet.
+/// The name of the problem that a command reads, and what it wants of it; none for a command that reads none, or that reads
+/// other files too.
 pub fn task_of(command: &Command) -> Option<(&[u8], Wanted)>
     requires sized { IsSized command.now }
     ensures task { option_map (λ asked. task asked.0.now asked.1) result ≡ task_of command.now }
@@ -58,9 +67,11 @@ pub fn task_of(command: &Command) -> Option<(&[u8], Wanted)>
     }
 }
 
-/// The names of the files of the run that a command asks to do again; none for another command.
+/// The files of the run with a feed that a command asks for; none for another command.
 pub fn files_of(alloc: Global, command: &Command) -> Result<Option<Files>, Memory>
-    ensures { IfOk result (λ files. files ≡ replayed_by command.now) }
+    requires sized { IsSized command.now }
+    ensures files { IfOk result (λ files. files ≡ fed_by command.now) }
+    ensures fit { IfOk result (λ files. IfSome files (λ one. IsTimely one.timing)) }
 {
     match command {
         Command::Replay {
@@ -70,7 +81,20 @@ pub fn files_of(alloc: Global, command: &Command) -> Result<Option<Files>, Memor
         } => Ok(Some(Files {
             name: name.copy(alloc)?,
             feed: feed.copy(alloc)?,
-            journal: journal.copy(alloc)?,
+            timing: Timing::Journal(journal.copy(alloc)?),
+        })),
+        Command::Solve {
+            name,
+            feed: Some(feed),
+            workers,
+            buffer,
+        } => Ok(Some(Files {
+            name: name.copy(alloc)?,
+            feed: feed.copy(alloc)?,
+            timing: Timing::Live(Hands {
+                workers: *workers,
+                buffer: *buffer,
+            }),
         })),
         _ => Ok(None),
     }

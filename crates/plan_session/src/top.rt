@@ -4,12 +4,12 @@ ghost use Rattle.plan_json.specs.Seen.{domain_views};
 ghost use Rattle.plan_session.specs.Due.{IsDue};
 ghost use Rattle.plan_session.specs.Ending.{Ended};
 ghost use Rattle.plan_session.specs.Run.{Run};
-ghost use Rattle.plan_session.specs.Task.{IsFit, generation_asked, replay_asked, task, task_asked, tour_asked};
+ghost use Rattle.plan_session.specs.Task.{IsFit, generation_asked, files_asked, task, task_asked, tour_asked};
 
 use crate::answer::answer;
+use crate::fed_files::fed_files;
 use crate::generate::answer_unread;
 use crate::outside::{fetch, say};
-use crate::replay_files::replay_files;
 use crate::status::Status;
 use crate::task::{Wanted, files_of, task_of};
 use plan_facts::Text;
@@ -39,7 +39,7 @@ fn perform<T: Threads + Sync, B: Book, S: Shelf, K: Sink, G: Gate + Sync>(
       asked = Some (task name.now wanted);
       generates = None;
       tours = None;
-      replays = None;
+      feeds = None;
       domains = domain_views domains.now;
       makers = map (λ d. map (λ m. (⟦<dyn Maker as Maker>⟧ m.vtable).made m.value) d.makers.items) domains.now;
       meaning = B.meaning;
@@ -64,8 +64,8 @@ fn perform<T: Threads + Sync, B: Book, S: Shelf, K: Sink, G: Gate + Sync>(
 /// score of its plan as read; `explain NAME` that with each match, and what each fact adds. `gen NUMBER SIZE` prints a
 /// generated problem, and `tour NUMBER SIZE` the sum of the run that `solve` prints of it; they read nothing. `replay NAME
 /// --feed NAME --journal NAME` prints the run that takes each line of the feed at the boundary that the journal names; the
-/// problem is read and judged before the feed is opened, and the feed is read whole before the journal is opened. `solve`
-/// with a feed isn't built yet.
+/// problem is read and judged before the feed is opened, and the feed is read whole before the journal is opened. `solve NAME
+/// --feed NAME` searches while the lines of the feed come, and takes each at the boundary that its text names.
 pub fn run<T: Threads + Wait + Sync, B: Book, S: Shelf, K: Sink + Send, G: Gate + Sync>(
     rt: &T,
     alloc: Global,
@@ -84,7 +84,7 @@ where
       asked = task_asked words.now;
       generates = generation_asked words.now;
       tours = tour_asked words.now;
-      replays = replay_asked words.now;
+      feeds = files_asked words.now;
       domains = domain_views domains.now;
       makers = map (λ d. map (λ m. (⟦<dyn Maker as Maker>⟧ m.vtable).made m.value) d.makers.items) domains.now;
       meaning = B.meaning;
@@ -93,8 +93,8 @@ where
     } in
         Ended (IsDue run) (K.state out.old) (K.state out.new) result }
 
-    // Words that are no command that is built, or that reads no problem, leave the shelf alone, however it ended.
-    ensures untouched { task_asked words.now ≡ None → replay_asked words.now ≡ None → shelf.new ≡ shelf.old }
+    // Words that are no command, or one that reads no problem, leave the shelf alone, however it ended.
+    ensures untouched { task_asked words.now ≡ None → files_asked words.now ≡ None → shelf.new ≡ shelf.old }
 
     // Every file that was opened is given back, and shelf and sink promise what they promised.
     ensures given_back { (S.state shelf.new).lent ≡ (S.state shelf.old).lent }
@@ -103,7 +103,7 @@ where
 {
     match read_words(alloc, words) {
         Ok(command) => match files_of(alloc, &command) {
-            Ok(Some(files)) => replay_files(rt, alloc, gate, &files, shelf, out, domains),
+            Ok(Some(files)) => fed_files(rt, alloc, gate, &files, shelf, out, domains),
             Ok(None) => match task_of(&command) {
                 Some((name, wanted)) => perform(rt, alloc, gate, name, wanted, shelf, out, domains),
                 None => answer_unread(rt, alloc, gate, &command, domains, out),

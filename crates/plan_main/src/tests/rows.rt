@@ -3,7 +3,7 @@ use plan_session::Status;
 
 /// The parts of texts: a problem of the timetable up to its timeslots, two of these, what leads to the rooms, a room, what
 /// leads to the lessons, two of these, and the end; then the zero score, the lines of all rules without a match, of all but the
-/// first, and of all after the fifth; then two employees with two shifts of a roster, and a subject of 65 bytes.
+/// first, and of all after the fifth; the lines of all rules of the roster without a match; then two employees with two shifts of a roster, and a subject of 65 bytes.
 pub(super) const PARTS: &[(&str, &str)] = &[
     (
         "T",
@@ -53,6 +53,20 @@ rule subject_repeat 0 0hard/0medium/0soft"#,
 rule teacher_room 0 0hard/0medium/0soft
 rule teacher_chain 0 0hard/0medium/0soft
 rule subject_repeat 0 0hard/0medium/0soft"#,
+    ),
+    (
+        "RZ",
+        r#"rule skill 0 0hard/0medium/0soft
+rule overlap 0 0hard/0medium/0soft
+rule leave 0 0hard/0medium/0soft
+rule rest 0 0hard/0medium/0soft
+rule load 0 0hard/0medium/0soft
+rule days 0 0hard/0medium/0soft
+rule hours 0 0hard/0medium/0soft
+rule early 0 0hard/0medium/0soft
+rule late 0 0hard/0medium/0soft
+rule idle 0 0hard/0medium/0soft
+rule wish 0 0hard/0medium/0soft"#,
     ),
     (
         "N",

@@ -10,11 +10,11 @@ use Rattle.plan_reports.specs.declared.line.Line.TheVariants as line
 use Rattle.plan_search.specs.RunLines.{best_lines_of, opening_lines, text_of}
 use Rattle.plan_session.specs.Course.{BareLeg, best_in}
 use Rattle.plan_session.specs.Fed.{bare, legs_to, newest}
-use Rattle.plan_session.specs.Live.{IsLive, leg_begun, next_text}
+use Rattle.plan_session.specs.Live.{IsLive, leg_begun, next_text, text_to}
 use Rattle.plan_session.specs.Posed.{posed_in}
 use Rattle.plan_session.specs.Replayed.{IsPlaceAt, feed_of, lines_at}
 use Rattle.plan_session.proofs.Begun.{failed_first}
-use Rattle.plan_session.proofs.Live.{fed_by, front_of_all, text-first, text_to}
+use Rattle.plan_session.proofs.Live.{fed_by, front_of_all, text-first}
 use Rattle.plan_session.proofs.Posing.{is_posed}
 use Rattle.plan_session.proofs.Printed.{later_goes_on, prints_as, prints_more, wrote_more}
 use Rattle.plan_session.proofs.Replayed.{failed_at, first_place, lines_between, next_newest, next_text_is, replay_is}

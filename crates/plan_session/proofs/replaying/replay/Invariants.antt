@@ -5,10 +5,9 @@ use Rattle.plan_json.specs.Seen.{domain_view}
 use Rattle.plan_ports.specs.Outside.{LaterSink, Wrote}
 use Rattle.plan_session.specs.Course.{IsQuiet}
 use Rattle.plan_session.specs.Fed.{legs_to, newest}
-use Rattle.plan_session.specs.Live.{IsLive}
+use Rattle.plan_session.specs.Live.{IsLive, text_to}
 use Rattle.plan_session.specs.Posed.{posed_in}
 use Rattle.plan_session.specs.Replayed.{IsPlaceAt, feed_of, lines_at}
-use Rattle.plan_session.proofs.Live.{text_to}
 use Rattle.plan_session.proofs.replaying.replay.Given as goal
 
 -- the run is in course behind the boundary after the steps so far, and what it prints up to there is printed

@@ -9,23 +9,23 @@ use Rattle.plan_session.proofs.DueLaws.{found_fault, slice_at, some_and_at, stan
 use Rattle.plan_session.proofs.EndingLaws.{ended_saying}
 use Rattle.plan_session.proofs.ReplayLaws.{due_refused, has_problem}
 use Rattle.plan_session.proofs.ShelfLaws.{later_same}
-use Rattle.plan_session.proofs.replay_files.replay_bytes.Goals as goal
+use Rattle.plan_session.proofs.fed_files.fed_bytes.Goals as goal
 
-pub replay_problem-requires-clause-judges : goal.replay_problem-requires-clause-judges
-replay_problem-requires-clause-judges g c =
+pub fed_problem-requires-clause-judges : goal.fed_problem-requires-clause-judges
+fed_problem-requires-clause-judges g c =
     let at = c.in-Some.ensures.lookup in
     let accepted = some_and_at (λ d. IsAccepted d.rules.defs d.rules.caps c.in-Ok.problem) _ c.in-Some.domain.now
     (slice_at c.args.domains.now c.in-Ok.problem.domain c.in-Some.domain.now at.3.0 at.1) c.in-Ok.ensures.accepted in
     λ κs lives. (rw at.1 (c.requires.keeps c.in-Ok.problem.domain c.in-Some.domain.now at.3.0), accepted.judges)
 
-pub replay_problem-requires-clause-in_range : goal.replay_problem-requires-clause-in_range
-replay_problem-requires-clause-in_range g c =
+pub fed_problem-requires-clause-in_range : goal.fed_problem-requires-clause-in_range
+fed_problem-requires-clause-in_range g c =
     let at = c.in-Some.ensures.lookup in
     λ κs lives. (some_and_at (λ d. IsAccepted d.rules.defs d.rules.caps c.in-Ok.problem) _ c.in-Some.domain.now
     (slice_at c.args.domains.now c.in-Ok.problem.domain c.in-Some.domain.now at.3.0 at.1) c.in-Ok.ensures.accepted).settings
 
-pub replay_problem-requires-clause-schema : goal.replay_problem-requires-clause-schema
-replay_problem-requires-clause-schema g c =
+pub fed_problem-requires-clause-schema : goal.fed_problem-requires-clause-schema
+fed_problem-requires-clause-schema g c =
     let at = c.in-Some.ensures.lookup in
     λ κs lives. some_and_at (λ d. IsOfSchema d.schema c.in-Ok.problem.plan) _ c.in-Some.domain.now
     (slice_at c.args.domains.now c.in-Ok.problem.domain c.in-Some.domain.now at.3.0 at.1) c.in-Ok.ensures.schema
@@ -33,7 +33,7 @@ replay_problem-requires-clause-schema g c =
 pub returns-in-Some-clause-ended : goal.returns-in-Some-clause-ended
 returns-in-Some-clause-ended g c = λ run asks held spans.
     let at = c.in-Some.ensures.lookup in
-    c.replay_problem.ensures.ended run
+    c.fed_problem.ensures.ended run
     (has_problem run c.args.files.now (domain_views c.args.domains.now) _ g.B.Book.meaning asks c.args.bytes.now
     (problem_view c.in-Ok.problem) _ _ held c.in-Ok.ensures.problem
     (stands_mapped domain_view c.args.domains.now c.in-Ok.problem.domain c.in-Some.domain.now at.3.0 at.1)

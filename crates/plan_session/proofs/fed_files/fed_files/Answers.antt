@@ -6,7 +6,7 @@ use Rattle.plan_json.proofs.ReadLaws.{problem_of-long}
 use Rattle.plan_session.specs.declared.status.Status.TheVariants as status
 use Rattle.plan_session.specs.DueReplay.{source_line}
 use Rattle.plan_session.proofs.EndingLaws.{ended_saying}
-use Rattle.plan_session.proofs.replay_files.replay_files.Goals as goal
+use Rattle.plan_session.proofs.fed_files.fed_files.Goals as goal
 
 pub returns-in-Ok-clause-ended : goal.returns-in-Ok-clause-ended
 returns-in-Ok-clause-ended g c =
@@ -15,7 +15,7 @@ returns-in-Ok-clause-ended g c =
     λ told.
     ap (λ name. shelf.bytes_of name) (sym c.as_slice.ensures) ∙ c.in-Ok.ensures.bytes told
     ∙ ap (λ bytes. Some bytes) (sym c.deref.ensures.value) in
-    c.replay_bytes.ensures.ended _ (record { asked = refl; domains_are = refl; makers_are = refl; means = refl }) held
+    c.fed_bytes.ensures.ended _ (record { asked = refl; domains_are = refl; makers_are = refl; means = refl }) held
     (record { later = c.in-Ok.ensures.later; left = refl })
 
 pub returns-in-Err-Failed-clause-ended : goal.returns-in-Err-Failed-clause-ended

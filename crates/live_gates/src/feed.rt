@@ -1,3 +1,5 @@
+ghost use Rattle.std.specs.Prelude.{◌≤◌, length};
+
 use crate::meeting::Meeting;
 use plan_ports::{Failed, Source};
 

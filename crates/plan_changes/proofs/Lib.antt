@@ -6,3 +6,4 @@ pub mod Accepted
 pub mod Kept
 pub mod Prepared
 pub mod Schemas
+pub mod Undone

@@ -72,7 +72,7 @@ removed_schema classes plan class id within is =
     same_shapes classes plan (without_fact plan class id) (length-map rest (class_let_go class id) ∙ length-set plan.classes class view)
     (λ n. ap shape_in (image_at (class_let_go class id) rest n no_class) ∙ each_class (λ m v. shape_in v ≡ shape_in (class_of plan m)) plan class view within refl (λ m. refl) n) is
 
-items_keep : (names : List (List ℕ)) (class id : ℕ) (plan : PlanView) (pairs : List (ℕ × Option Item)) → class < length plan.classes → KeepsIds plan (fold (with_item names class id) plan pairs)
+pub items_keep : (names : List (List ℕ)) (class id : ℕ) (plan : PlanView) (pairs : List (ℕ × Option Item)) → class < length plan.classes → KeepsIds plan (fold (with_item names class id) plan pairs)
 items_keep names class id plan [] within = keeps_itself plan
 items_keep names class id plan (pair ∷ pairs) within =
     let next = with_item names class id plan pair in
@@ -80,7 +80,7 @@ items_keep names class id plan (pair ∷ pairs) within =
     let count = one.count in
     keeps_after plan next (fold (with_item names class id) next pairs) one (items_keep names class id next pairs (omega arith))
 
-choices_keep : (class id : ℕ) (plan : PlanView) (pairs : List (ℕ × Option (Option ℕ))) → class < length plan.classes → KeepsIds plan (fold (with_choice class id) plan pairs)
+pub choices_keep : (class id : ℕ) (plan : PlanView) (pairs : List (ℕ × Option (Option ℕ))) → class < length plan.classes → KeepsIds plan (fold (with_choice class id) plan pairs)
 choices_keep class id plan [] within = keeps_itself plan
 choices_keep class id plan (pair ∷ pairs) within =
     let next = with_choice class id plan pair in

@@ -5,3 +5,4 @@ pub mod Refused
 pub mod Ready
 pub mod Performed
 pub mod Fits
+pub mod Undo

@@ -9,12 +9,14 @@ mod perform;
 mod preparing;
 mod ready;
 mod refused;
+mod undo;
 
 pub use change::{Change, Deed, FieldItem, Item, ValueItem, WEIGHT_LIMIT};
 pub use fault::ChangeFault;
 pub use line::{Body, LineFault, Post, Spot, StopCause};
 pub use preparing::prepare;
 pub use ready::Ready;
+pub use undo::Undo;
 
 #[cfg(test)]
 mod tests;

@@ -4,3 +4,4 @@ mod limits;
 mod made;
 mod performed;
 mod refused;
+mod undone;

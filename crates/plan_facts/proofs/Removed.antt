@@ -130,7 +130,7 @@ ids_in-filter (raw ∷ facts) id =
     ]
 
 -- a class without one of its records is still as the plan says
-class_without : (plan : PlanView) (view : ClassView) (id : ℕ) → IsClassOf plan view → IsClassOf plan (without_record view id)
+pub class_without : (plan : PlanView) (view : ClassView) (id : ℕ) → IsClassOf plan view → IsClassOf plan (without_record view id)
 class_without plan view id is =
     let ids = ids_in-filter view.facts id in
     record {

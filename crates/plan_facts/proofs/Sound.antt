@@ -120,7 +120,7 @@ sum_by_same f d (x ∷ xs) (y ∷ ys) same terms =
     let rest = sum_by_same f d xs ys (omega arith) (λ place. terms (suc place)) in
     omega (arith, sum_by-cons f x xs, sum_by-cons f y ys)
 
-kept_record : (old new : PlanView) → KeepsIds old new → (class : ℕ) (raw : Raw) → IsRecordOf old (class_of old class) raw → IsRecordOf new (class_of new class) raw
+pub kept_record : (old new : PlanView) → KeepsIds old new → (class : ℕ) (raw : Raw) → IsRecordOf old (class_of old class) raw → IsRecordOf new (class_of new class) raw
 kept_record old new keeps class raw fits =
     record {
       fields = fits.fields ∙ sym (keeps.fields class);

@@ -6,6 +6,7 @@ pub mod Names
 pub mod Schema
 pub mod Plan
 pub mod PlanChanges
+pub mod PlanBack
 pub mod PlanFaults
 pub mod Listed
 pub mod Lent

@@ -21,6 +21,7 @@ pub use memory::Memory;
 pub use names::Names;
 pub use names_of_class::is_name;
 pub use plan::Plan;
+pub use plan::putting::Removal;
 pub use record::{
     ClassDef, FieldDef, Kind, Raw, Rec, Value, VarDef, copy_planned, same_numbers, same_planned,
 };

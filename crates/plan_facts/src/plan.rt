@@ -391,6 +391,8 @@ impl Plan {
     }
 }
 
+mod back;
+pub mod putting;
 mod refill;
 #[cfg(test)]
 mod tests;

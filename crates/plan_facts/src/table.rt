@@ -1,8 +1,9 @@
-ghost use Rattle.std.specs.Prelude.{◌≡◌, ◌≢◌, if◌then◌else◌, Bool, false, zip, ◌<◌, ◌+◌, ℕ, List, ◌∷◌, [], ◌++◌, length, None, Some, MatchOption, IsSomeAnd, All, slice_index, slice_index_or, slice_set, option_copied, ◌^◌, max, fold, nat_eq, map, is_some, IsTrue, IfOk, OnOk, OnErr};
+ghost use Rattle.std.specs.Prelude.{◌≡◌, ◌≢◌, if◌then◌else◌, Bool, false, zip, ◌<◌, ◌+◌, ℕ, List, ◌∷◌, [], ◌++◌, length, None, Some, MatchOption, IsSomeAnd, All, slice_index, slice_index_or, slice_set, option_copied, ◌^◌, max, fold, nat_eq, map, is_some, IsTrue, IfOk, OnOk, OnErr, slice_get, ◌-◌};
 ghost use Rattle.std.specs.List.{IsDistinct};
 ghost use Rattle.plan_facts.specs.Plan.{record_with_id, ids_in, is_missing, missing_in, nulls_in, AreIncreasing, IsPlaceIn, IsPlaceOf};
 ghost use Rattle.plan_facts.specs.PlanFaults.{table_of};
 ghost use Rattle.plan_facts.specs.PlanChanges.{HasValue, raw_with_value, raw_with_field, with_next, with_record, without_record, let_go, record_let_go, class_let_go};
+ghost use Rattle.plan_facts.specs.PlanBack.{record_like, without_last};
 
 use crate::list::List;
 use crate::memory::Memory;
@@ -158,6 +159,9 @@ impl Table {
         ensures { result ≡ nulls_in self.now.nullables self.now.facts }
     {
         let nullables = self.nullables.as_slice();
+        if nullables.is_empty() {
+            return 0;
+        }
         let mut missing = 0;
         for raw in &self.facts {
             missing += count_missing(nullables, raw.values.as_slice());
@@ -295,12 +299,54 @@ impl Table {
         }
     }
 
-    /// Makes each variable null that holds the fact of this class with this id.
+    /// Puts a record in the place of the one with its id, and gives that.
+    pub fn replace(&mut self, raw: Raw) -> Raw
+        requires increasing { AreIncreasing (ids_in self.old.facts) }
+        requires there { IsTrue (is_some (record_with_id raw.id self.old.facts)) }
+        ensures was { record_with_id raw.id self.old.facts ≡ Some result }
+        ensures now { self.new ≡ with_record self.old raw.id (record_like raw) }
+    {
+        match self.place(raw.id) {
+            Some(place) => {
+                let record = &mut self.facts[place];
+                std::mem::replace(record, raw)
+            }
+            None => unreachable!(),
+        }
+    }
+
+    /// How many values of the last record are missing.
+    pub fn last_missing(&self) -> usize
+        requires { 0 < length self.now.facts }
+        ensures { let last = slice_get self.now.facts (length self.now.facts - 1) in
+            IsSomeAnd last (λ raw. result ≡ missing_in self.now.nullables raw.values) }
+    {
+        let last = &self.facts[self.facts.len() - 1];
+        count_missing(self.nullables.as_slice(), last.values.as_slice())
+    }
+
+    /// Takes the last record out, as if it had never been made.
+    pub fn take_last_back(&mut self)
+        requires some { 0 < length self.old.facts }
+        requires made { 0 < self.old.greatest }
+        ensures { self.new ≡ without_last self.old }
+    {
+        let rest = self.facts.len() - 1;
+        self.ids.truncate(rest);
+        self.facts.truncate(rest);
+        self.greatest -= 1;
+    }
+
+    /// Makes each variable null that holds the fact of this class with this id. Nothing is looked at where no variable
+    /// can hold it.
     pub fn let_go(&mut self, class: u8, id: u32)
         requires { All (λ raw. length raw.values ≡ length self.old.ranges) self.old.facts }
         ensures { self.new ≡ class_let_go class id self.old }
     {
-        let_go_all(self.ranges.as_slice(), &mut self.facts, class, id);
+        let ranges = self.ranges.as_slice();
+        if ranges.contains(&class) {
+            let_go_all(ranges, &mut self.facts, class, id);
+        }
     }
 
     /// A copy of the table.
@@ -322,3 +368,5 @@ impl Table {
         })
     }
 }
+
+pub mod putting;

@@ -164,7 +164,7 @@ fn rules(alloc: Global) -> Result<List<Text>, Memory>
 }
 
 /// The weights of the rules.
-fn weights(alloc: Global) -> Result<List<u32>, Memory>
+pub fn weights(alloc: Global) -> Result<List<u32>, Memory>
     ensures { IfOk result (λ weights. length weights ≡ 2) }
 {
     let mut weights = List::new(alloc);

@@ -1,3 +1,5 @@
+ghost use Rattle.std.specs.Prelude.{◌≡◌, OnOk};
+
 use super::*;
 use crate::record::{ClassDef, FieldDef, Kind, VarDef};
 use crate::text::Text;
@@ -662,5 +664,71 @@ fn removes_facts_from_the_variables(rt: HostRuntime) -> Result<(), Fail> {
     assert!(rt; plan.unplaced() == 2);
     assert!(rt; plan.made() == 7);
     assert!(rt; !plan.remove(3, 1));
+    Ok(())
+}
+
+/// Adds a fact where its class is there, and takes it back; whether it was added.
+fn add_and_take_back(
+    plan: &mut Plan,
+    alloc: Global,
+    class: u8,
+    sketch: &Sketch,
+) -> Result<bool, PlanFault> {
+    if class >= plan.classes() {
+        return Ok(false);
+    }
+    let Raw { fields, values, .. } = raw_of(alloc, sketch)?;
+    plan.add(class, fields, values)?;
+    plan.take_back_newest(class);
+    Ok(true)
+}
+
+/// A lesson without a room, and a slot.
+const NEWEST: &[(u8, Sketch)] = &[
+    (LESSON, (0, &[1], &[Some(4), None])),
+    (SLOT, (0, &[2, 480], &[])),
+];
+
+#[test]
+fn takes_the_newest_fact_back(rt: HostRuntime) -> Result<(), Fail> {
+    let mut plan = timetable(rt.alloc())?;
+    for (class, sketch) in NEWEST {
+        let added = add_and_take_back(&mut plan, rt.alloc(), *class, sketch);
+        assert!(rt; added == Ok(true));
+        assert!(rt; wrong_ids(&plan) == None);
+        assert!(rt; plan.made() == 7);
+        assert!(rt; plan.unplaced() == 3);
+    }
+    Ok(())
+}
+
+/// Removes a fact where it is live, and puts it back; whether it was removed.
+fn remove_and_put_back(plan: &mut Plan, class: u8, id: u32) -> Result<bool, Memory>
+    ensures { OnOk result (plan.new ≡ plan.old) }
+{
+    if !plan.is_live(class, id) {
+        return Ok(false);
+    }
+    let removal = plan.removal(class, id)?;
+    if plan.remove(class, id) {
+        plan.put_back(removal);
+        return Ok(true);
+    }
+    Ok(false)
+}
+
+/// Facts that are removed: a slot that a lesson has, the last slot, a lesson, a room.
+const REMOVED: &[(u8, u32)] = &[(SLOT, 9), (SLOT, 1_000_000_000), (LESSON, 1), (ROOM, 1)];
+
+#[test]
+fn puts_removed_facts_back(rt: HostRuntime) -> Result<(), Fail> {
+    let mut plan = timetable(rt.alloc())?;
+    for (class, id) in REMOVED {
+        let removed = remove_and_put_back(&mut plan, *class, *id)?;
+        assert!(rt; removed);
+        assert!(rt; wrong_ids(&plan) == None);
+        assert!(rt; plan.unplaced() == 3);
+        assert!(rt; holds(&plan, LESSON, &(2, &[30], &[Some(9), None])));
+    }
     Ok(())
 }

@@ -113,7 +113,7 @@ fn fact_changed<B: Book, L: Ledger>(
         → IsOfSchema classes plan.new }
 {
     let keys = keys_of_change(alloc, plan, ready)?;
-    let before = plan.copy()?;
+    let undo = ready.undo(plan)?;
     let mut same = weights.copy(alloc)?;
     let count = names.count();
     perform(ready, plan, names, &mut same)?;
@@ -121,7 +121,7 @@ fn fact_changed<B: Book, L: Ledger>(
         Ok(score) => Ok(score),
         Err(Memory) => {
             names.cut(count);
-            *plan = before;
+            undo.take_back(plan);
             Err(Memory)
         }
     }

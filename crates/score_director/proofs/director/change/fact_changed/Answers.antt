@@ -1,5 +1,7 @@
 use Rattle.std.proofs.Common.{◌∙◌, ℕ, List, length, take, ap, subst, sym, arith}
 use Rattle.plan_changes.specs.Performed.{texts_of}
+use Rattle.plan_changes.specs.Undo.{TakesBack}
+use Rattle.plan_facts.specs.Plan.{PlanView}
 use Rattle.plan_changes.proofs.Numbered.{numbered_front, numbered_le}
 use Rattle.plan_rules.specs.Range.{MayJudge, sizes_of}
 use Rattle.score_director.proofs.Led.{change_turns}
@@ -31,3 +33,11 @@ returns-clause-names_stay g c =
     ∙ ap (λ n. take n c.perform.new.names) c.count-count.ensures.count
     ∙ ap (take (length c.args.names.now)) c.in_ok-perform.ensures.names
     ∙ numbered_front c.args.names.now (texts_of c.args.ready.now)
+
+pub take_back-requires : goal.take_back-requires
+take_back-requires g c =
+    (c.args.plan.now, subst (λ (after : PlanView). TakesBack c.in_ok-undo.undo c.args.plan.now after) (sym c.in_ok-perform.ensures.plan) (c.in_ok-undo.ensures c.args.names.now))
+
+pub returns-clause-plan_stays : goal.returns-clause-plan_stays
+returns-clause-plan_stays g c =
+    c.take_back.ensures c.args.plan.now (subst (λ (after : PlanView). TakesBack c.in_ok-undo.undo c.args.plan.now after) (sym c.in_ok-perform.ensures.plan) (c.in_ok-undo.ensures c.args.names.now))

@@ -1,7 +1,7 @@
 -- How a live run ended, by its closed journal.
 use Rattle.std.proofs.Common.{◌≡◌, ◌∙◌, ◌<◌, ◌+◌, ℕ, zero, suc, Bool, true, false, not, cond, List, [], ◌∷◌, ◌++◌, Option, Some, Result, Ok, Err, All, length, map, take, drop, get_or, refl, sym, ap, subst, arith}
 use Rattle.std.specs.List.{Any, range_with_len, slice_index_or, zip}
-use Rattle.std.specs.Prelude.{OnOk}
+use Rattle.std.specs.Prelude.{IsSome, OnOk}
 use Rattle.std.proofs.lemmas.List.{append-nil, append_assoc}
 use Rattle.std.proofs.lemmas.List.Elements.{All-cons, All-head, All-nil, All-tail}
 use mathlib.Core.List.{IsPrefix}
@@ -216,14 +216,14 @@ module _ (by : Grounds) (posed : Posed) (cuts : List (Take Post)) (shuts : ℕ) 
       → Drove by posed (Some journal) before after start now (status_of_end ended)
   drove (Ok tt) ended all unshut = (journal, refl, ran_live ended all unshut)
   drove (Err Memory) ended all unshut = broke_off Memory ended
-  drove (Err Write) ended all unshut = (broke_off Write ended, ended.failed refl)
+  drove (Err Write) ended all unshut = (broke_off Write ended, ended.failed refl, refl)
   drove (Err (Stopped causes.Memory)) ended all unshut = broke_off (Stopped causes.Memory) ended
   drove (Err (Stopped causes.ReadFault)) ended all unshut =
       let is = stopped_by causes.ReadFault (ended.stopped causes.ReadFault refl) in
-      (broke_off (Stopped causes.ReadFault) ended, record { fails = feeds.failed is; unsound = feeds.unsound is })
+      (broke_off (Stopped causes.ReadFault) ended, record { fails = feeds.failed is; unsound = feeds.unsound is }, refl)
   drove (Err (Stopped causes.Overrun)) ended all unshut =
       let is = stopped_by causes.Overrun (ended.stopped causes.Overrun refl) in
-      (broke_off (Stopped causes.Overrun) ended, λ tells. feeds.overrun tells is)
+      (broke_off (Stopped causes.Overrun) ended, (λ tells. feeds.overrun tells is), refl)
 
 -- a run that took nothing of its feed broke off at a front of its first line
 module _ (by : Grounds) (posed : Posed) (journal : Option (List (Entry Post))) (own : AreCutsOf journal []) (before after : SourceState) (start now : SinkState)
@@ -243,10 +243,10 @@ module _ (by : Grounds) (posed : Posed) (journal : Option (List (Entry Post))) (
         wrote = subst (λ (text : List ℕ). WroteFront text start now) is (front_of_more first (opening ++ front.0) start now wrote);
       }
 
-  pub drove_first : (fault : PrintFault) → (fault ≡ printing.Write → SinkFails start now)
+  pub drove_first : IsSome journal → (fault : PrintFault) → (fault ≡ printing.Write → SinkFails start now)
       → Drove by posed journal before after start now (status_of_end (Err (live_fault fault)))
-  drove_first printing.Memory failed = broke_first
-  drove_first printing.Write failed = (broke_first, failed refl)
+  drove_first some printing.Memory failed = broke_first
+  drove_first some printing.Write failed = (broke_first, failed refl, some)
 
   pub drove_nowhere : Drove by posed journal before after start now status.Memory
   drove_nowhere = broke_first

@@ -1,5 +1,5 @@
 -- What a live run makes of the cuts of its journal.
-use Rattle.std.specs.Prelude.{◌≡◌, ◌≤◌, ◌<◌, ◌++◌, ◌-◌, ℕ, suc, true, false, List, [], ◌∷◌, Option, Some, None, Result, All, Any, IsErrOf, OnErr, OnOk, flat_map, length, map, replicate, take, slice_get}
+use Rattle.std.specs.Prelude.{◌≡◌, ◌≤◌, ◌<◌, ◌++◌, ◌-◌, ℕ, suc, true, false, List, [], ◌∷◌, Option, Some, None, Result, All, Any, IsErrOf, IsSome, OnErr, OnOk, flat_map, length, map, replicate, take, slice_get}
 use Rattle.std.specs.List.{range_with_len}
 use Rattle.std.specs.Option.{option_map_or}
 use mathlib.Core.List.{IsPrefix}
@@ -175,16 +175,16 @@ pub record FeedFails (old new : SourceState) : Type 0 where
 abbrev pub IsTooLong : SourceState → Type 0
 IsTooLong source = source.tells ≡ true → overlong source.left ≡ true
 
--- how a live run ends: with its whole text, or cut short, and why
+-- how a live run ends: with its whole text, or cut short, and why; there is a journal but where memory was wanting
 abbrev pub Drove : Grounds → Posed → Option (List (Entry Post)) → SourceState → SourceState
     → SinkState → SinkState → Status → Type 0
 Drove by posed journal before after old new status.Ok =
     (entries : List (Entry Post)) × (journal ≡ Some entries) × RanLive by posed before entries old new
 Drove by posed journal before after old new status.Memory = BrokeOff by posed before journal old new
 Drove by posed journal before after old new status.Feed =
-    BrokeOff by posed before journal old new × FeedFails before after
+    BrokeOff by posed before journal old new × FeedFails before after × IsSome journal
 Drove by posed journal before after old new status.Write =
-    BrokeOff by posed before journal old new × SinkFails old new
+    BrokeOff by posed before journal old new × SinkFails old new × IsSome journal
 Drove by posed journal before after old new status.FeedTooLong =
-    BrokeOff by posed before journal old new × IsTooLong before
+    BrokeOff by posed before journal old new × IsTooLong before × IsSome journal
 Drove by posed journal before after old new _ = ⊥

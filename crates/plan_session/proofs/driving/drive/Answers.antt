@@ -37,7 +37,7 @@ returns-in-Err-clause-drove g c =
     let is : c.status_of_end.result ≡ status_of_end (Err (live_fault c.in-Err.fault)) =
     c.status_of_end.ensures ∙ ap (λ (fault : LiveFault). status_of_end (Err fault)) c.from.ensures in
     subst (Drove by posed (Some journal) feed feed old new) (sym is)
-    (drove_first by posed (Some journal) (takes journal, refl) feed feed old new prints.front c.in-Err.fault (λ written. prints.failed (ap Err written)))
+    (drove_first by posed (Some journal) (takes journal, refl) feed feed old new prints.front refl c.in-Err.fault (λ written. prints.failed (ap Err written)))
 
 pub returns-clause-drove : goal.returns-clause-drove
 returns-clause-drove g c =

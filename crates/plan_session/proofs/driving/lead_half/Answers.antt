@@ -1,11 +1,10 @@
-use Rattle.std.proofs.Common.{rules, ◌≡◌, ◌∙◌, ◌≤◌, List, Option, Some, Err, IfSome, length, map, take, refl, sym, ap, subst}
+use Rattle.std.proofs.Common.{◌≡◌, ◌∙◌, ◌≤◌, List, Option, Some, Err, IfSome, length, map, take, refl, sym, subst}
 use Rattle.live_posts.specs.Cuts.{Take, taken_by}
 use Rattle.plan_changes.specs.declared.line.Post.{Post}
 use Rattle.plan_json.specs.Seen.{domain_view}
 use Rattle.plan_session.specs.LiveRuns.{AgreesWith, AreInOrder, HasNoStop, HasStop}
 use Rattle.plan_session.specs.Origins.{origin_state}
 use Rattle.plan_session.specs.Posed.{posed_at}
-use Rattle.plan_session.specs.declared.live_fault.LiveFault.TheVariants.{Stopped}
 use Rattle.plan_session.proofs.LiveLead.{is_posed_at}
 use Rattle.plan_session.proofs.driving.lead_half.Goals as goal
 

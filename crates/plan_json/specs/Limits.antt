@@ -1,5 +1,5 @@
--- The limits of a problem: how many combinations of values, rows and score it may lead to.
-use Rattle.std.specs.Prelude.{ℕ, ◌+◌, ◌*◌, Bool, nat_lt, find, List, [], fold, length, Option, option_map, if◌then◌else◌}
+-- The limits of a problem: how many objects it may open, and how many combinations of values, rows and score it may lead to.
+use Rattle.std.specs.Prelude.{ℕ, ◌==◌, ◌+◌, ◌*◌, Bool, nat_lt, find, List, [], fold, length, Option, option_map, if◌then◌else◌}
 use Rattle.std.specs.Option.{option_or}
 use Rattle.plan_facts.specs.Plan.{PlanView, ids_of}
 use Rattle.plan_facts.specs.declared.record.ClassDef.{ClassDef}
@@ -12,6 +12,10 @@ use Rattle.plan_rules.specs.declared.fault.RangeFault.TheVariants as range
 use Rattle.problem_faults.specs.declared.fault.ProblemFault.{ProblemFault}
 use Rattle.problem_faults.specs.declared.fault.ProblemFault.TheVariants.{RangeProduct, RowsBound, ScoreRange}
 use Rattle.plan_json.specs.Domains.{DomainView}
+
+-- a byte opens an object, or stands in a text and looks so: it is `{`
+abbrev pub opens_object : ℕ → Bool
+opens_object byte = byte == 123
 
 -- how many choices a variable has: the facts of its range, and null where it may stay null
 abbrev pub choice_count : PlanView → VarDef → ℕ

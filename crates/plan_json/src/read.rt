@@ -1,10 +1,12 @@
-ghost use Rattle.std.specs.Prelude.{◌≡◌, IfOk, map, position};
+ghost use Rattle.std.specs.Prelude.{◌≡◌, ◌≤◌, ◌<◌, Err, IfOk, None, Some, count_by, length, map, position};
 ghost use Rattle.std.specs.Str.{bytes_eq};
+ghost use Rattle.json_values.specs.Values.{value_of};
 ghost use Rattle.serde_json.specs.View.{view};
 ghost use Rattle.plan_changes.specs.Fits.{IsOfSchema};
 ghost use Rattle.problem_faults.specs.Refusals.{RefusesFor};
 ghost use Rattle.problem_settings.specs.Root.{format_of};
 ghost use Rattle.plan_json.specs.Accepted.{problem_view, Reads, IsAccepted};
+ghost use Rattle.plan_json.specs.Limits.{opens_object};
 ghost use Rattle.plan_json.specs.Problem.{content_fault, facts_of, place_of_domain, problem_in, problem_of, problem_of_root};
 ghost use Rattle.plan_json.specs.Seen.{domain_view, domain_views, FitsItsDomain, IsAcceptedBy};
 
@@ -21,6 +23,10 @@ use std::alloc::Global;
 
 /// The most bytes that a problem may have.
 pub const BYTE_LIMIT: usize = 67_108_864;
+
+/// The most objects that a problem's bytes may open. Each takes up to a kilobyte while they are read, so that no problem takes more
+/// than some three gigabytes. One that is accepted has few more than a hundred thousand.
+const OBJECT_LIMIT: usize = 3_000_000;
 
 /// The member `facts` of a root that has it.
 fn facts_of(root: &Value) -> &Value
@@ -105,6 +111,25 @@ fn read_root<B: Book>(
     read_content(alloc, root, format, place, &domains[place])
 }
 
+/// How many bytes open an object, or stand in a text and look so.
+fn count_objects(bytes: &[u8]) -> usize
+    ensures { result ≡ count_by opens_object bytes.now }
+{
+    bytes.iter().filter(|byte| **byte == b'{').count()
+}
+
+/// The value of a problem's bytes. Memory is wanting where they open too many objects, however much of it there is.
+fn read_bounded(alloc: Global, bytes: &[u8]) -> Result<Value, ReadFault>
+    ensures ok { IfOk result (λ value. value_of bytes.now ≡ Some (view value)) }
+    ensures json { result ≡ Err ReadFault.Json → value_of bytes.now ≡ None }
+    ensures many { 3000000 < count_by opens_object bytes.now → result ≡ Err ReadFault.Memory }
+{
+    if count_objects(bytes) > OBJECT_LIMIT {
+        return Err(ReadFault::Memory);
+    }
+    read_value(alloc, bytes)
+}
+
 /// The problem that the bytes are, or the first refusal in the order that [`ProblemFault`] gives; only want of memory may
 /// come before.
 pub fn read_problem<B: Book>(
@@ -115,11 +140,13 @@ pub fn read_problem<B: Book>(
     ensures problem { Reads (problem_of (domain_views domains.now) bytes.now) result }
     ensures accepted { IfOk result (IsAcceptedBy domains.now) }
     ensures schema { IfOk result (FitsItsDomain domains.now) }
+    ensures many { length bytes.now ≤ 67108864 → 3000000 < count_by opens_object bytes.now
+        → result ≡ Err ProblemFault.Memory }
 {
     if bytes.len() > BYTE_LIMIT {
         return Err(ProblemFault::TooLong);
     }
-    match read_value(alloc, bytes) {
+    match read_bounded(alloc, bytes) {
         Ok(root) => read_root(alloc, &root, domains),
         Err(ReadFault::Memory) => Err(ProblemFault::Memory),
         Err(ReadFault::Json) => Err(ProblemFault::Json),

@@ -147,6 +147,9 @@ impl Placed for Cells {
     }
 
     fn same(&self, other: &Cells) -> bool {
-        self.cells() == other.cells()
+        match (self.cells(), other.cells()) {
+            ([Cell::Place(one)], [Cell::Place(other)]) => *one == *other,
+            (one, other) => one == other,
+        }
     }
 }

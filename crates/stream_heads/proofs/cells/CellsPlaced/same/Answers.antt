@@ -16,5 +16,5 @@ own_eq (Place one) (Num n) = (λ is. cc, λ e. cc)
 own_eq (Num n) (Place other) = (λ is. cc, λ e. cc)
 own_eq (Num one) (Num other) = instead _ (signed_Decides one other) (ap Num) (λ e. cc)
 
-pub returns : goal.returns
-returns c = slice_eq-Decides own_eq c.args.self.now c.args.other.now c.eq.result (rw (c.cells.ensures.cells, c.cells-2.ensures.cells) at c.eq.ensures)
+pub returns-in_default : goal.returns-in_default
+returns-in_default c = slice_eq-Decides own_eq c.args.self.now c.args.other.now c.eq.result (rw (c.cells.ensures.cells, c.cells-2.ensures.cells) at c.eq.ensures)

@@ -14,12 +14,12 @@ mod snapshot;
 
 use crate::part_number;
 use cases::{CASES, Case, Seen};
-use plan_facts::{Memory, Plan, Schema};
+use plan_facts::{List, Memory, Plan, Schema};
 use plan_json::{Domain, Problem, read_problem};
 use plan_moves::{Edit, Set};
-use plan_rules::{Judges, Kept, Row, Rules, Steps};
+use plan_rules::{Judges, Kept, Match, Row, Rules, Steps};
 use plan_scores::PlanScore;
-use score_director::Director;
+use score_director::{Director, totals_by_network};
 use shipped_domains::{Act, Shipped, with_shipped_domains};
 use std::alloc::Global;
 use std::marker::Brand;
@@ -46,6 +46,24 @@ fn are_rows(rows: &[Row], wanted: &[&[i64]]) -> bool {
         }
     }
     rows.len() == wanted.len()
+}
+
+/// Whether the parts of the rows of these matches have these numbers.
+fn are_matches(matches: &[Match], wanted: &[&[i64]]) -> bool {
+    for (one, numbers) in matches.iter().zip(wanted) {
+        if !is_row(&one.row, numbers) {
+            return false;
+        }
+    }
+    matches.len() == wanted.len()
+}
+
+/// Whether the rule at a place has matches whose rows have these numbers.
+fn has_matches(all: &[List<Match>], rule: u8, wanted: &[&[i64]]) -> bool {
+    match all.get(rule as usize) {
+        Some(matches) => are_matches(matches.as_slice(), wanted),
+        None => false,
+    }
 }
 
 /// The rows of the rule at a place have these numbers.
@@ -265,6 +283,25 @@ fn director_of<L: Ledger>(
     Director::new(alloc, rules, problem.plan, problem.weights, steps)
 }
 
+/// All that the plan of a case is worth, found at once, is what was worked by hand.
+fn expect_totals(
+    rt: &impl Abort,
+    alloc: Global,
+    rules: &Rules<Shipped>,
+    problem: &Problem,
+    seen: &Seen,
+) -> Result<(), Memory>
+    requires { let p = problem.now in
+        ⟦<Rules<Shipped> as Judges>⟧.judges rules.now p.weights (sizes_of p.plan) }
+{
+    let totals = totals_by_network(alloc, rules, &problem.plan, problem.weights.as_slice())?;
+    assert_eq!(rt; totals.score, placed_score(seen));
+    for (rule, rows) in seen.rows {
+        assert!(rt; has_matches(totals.matches.as_slice(), *rule, rows));
+    }
+    Ok(())
+}
+
 /// A director of the plan of a case does what was worked by hand.
 fn expect_worked<L: Ledger>(
     rt: &impl Abort,
@@ -279,6 +316,7 @@ fn expect_worked<L: Ledger>(
     requires some { 0 < L.parts }
     requires judges { ⟦<Rules<Shipped> as Judges>⟧.judges domain.now.rules problem.weights (sizes_of problem.plan) }
 {
+    expect_totals(rt, alloc, &domain.rules, &problem, &case.before)?;
     let mut steps: Steps<L> = Steps::new(blank);
     let mut director = director_of(alloc, &domain.rules, problem, &mut steps)?;
     direct(rt, alloc, domain, &mut director, case, &mut steps)?;

@@ -1,27 +1,19 @@
 -- What the rules from a place on make of some facts, and as much as they can add up to.
-use Rattle.std.specs.Prelude.{◌≡◌, ◌+◌, ◌≤◌, ℕ, List, ◌∷◌, drop}
-use Rattle.plan_facts.specs.declared.record.Rec.{Rec}
+use Rattle.std.specs.Prelude.{◌≡◌, ◌+◌, ◌≤◌, ◌++◌, ℕ, List, drop, length, map}
 use Rattle.plan_scores.specs.declared.score.Score.{Score}
-use Rattle.plan_scores.specs.Sum.{IsWithin}
+use Rattle.plan_scores.specs.Sum.{IsWithin, add_scores}
 use Rattle.plan_rules.specs.declared.row.Match.{Match}
 use Rattle.plan_rules.specs.declared.rule.RuleDef.{RuleDef}
 use Rattle.plan_rules.specs.Limits.{score_limit}
 use Rattle.plan_rules.specs.Meaning.{Meaning}
 use Rattle.plan_rules.specs.Range.{score_bound, weighed}
 use Rattle.plan_rules.specs.Rows.{Facts}
-use Rattle.plan_rules.specs.Totals.{all_matches, score_of}
-use Rattle.plan_recalc.specs.Facts.{facts_in, sizes_in}
-use Rattle.plan_recalc.specs.Size.{impact_sizes}
+use Rattle.plan_rules.specs.Totals.{all_matches, impact_sum, score_of}
+use Rattle.plan_recalc.specs.Size.{all_sizes}
 
 -- their matches
 abbrev pub matches_from : Meaning → Facts → List RuleDef → List ℕ → ℕ → List (List Match)
 matches_from m facts rules weights place = all_matches m facts (drop place rules) (drop place weights)
-
--- the first of them has these matches among the records of each class
-abbrev pub IsNext : Meaning → List (List Rec) → List RuleDef → List ℕ → ℕ → List Match → Type 0
-IsNext m records rules weights place matches =
-    matches_from m (facts_in records) rules weights place
-    ≡ matches ∷ matches_from m (facts_in records) rules weights (place + 1)
 
 -- their score
 abbrev pub score_from : Meaning → Facts → List RuleDef → List ℕ → ℕ → Score
@@ -38,13 +30,13 @@ pub record LeavesRoom (bound : ℕ) (score : Score) : Type 0 where
   pub within : IsWithin most score
   pub few : most + bound ≤ score_limit
 
--- a score that may grow by as much as the rules from a place on can add up to, among the records of each class
-abbrev pub HasRoom : List RuleDef → List ℕ → List ℕ → List (List Rec) → ℕ → Score → Type 0
-HasRoom rules caps weights records place score =
-    LeavesRoom (bound_from rules caps weights (sizes_in records) place) score
-
--- matches of the rule at a place: what they and the later rules can add up to is no more than those from the place on can
-abbrev pub LeaveSize : List RuleDef → List ℕ → List ℕ → List (List Rec) → ℕ → List Match → Type 0
-LeaveSize rules caps weights records place matches =
-    impact_sizes matches + bound_from rules caps weights (sizes_in records) (place + 1)
-    ≤ bound_from rules caps weights (sizes_in records) place
+-- what the rules before a place make of some facts: together with what those from the place on do, that is all, and there is
+-- room for what these can add up to
+pub record AreTotals (m : Meaning) (facts : Facts) (rules : List RuleDef) (caps weights sizes : List ℕ) (place : ℕ)
+    (found : List (List Match)) (sums : List Score) (total : Score) : Type 0 where
+  pub count : length found ≡ place
+  pub matches : all_matches m facts rules weights ≡ found ++ matches_from m facts rules weights place
+  pub score : score_of m facts rules weights ≡ add_scores total (score_from m facts rules weights place)
+  pub room : LeavesRoom (bound_from rules caps weights sizes place) total
+  pub small : all_sizes found + bound_from rules caps weights sizes place ≤ score_limit
+  pub impacts : sums ≡ map impact_sum found

@@ -14,12 +14,13 @@ mod keys;
 mod matches;
 mod node;
 mod right;
+mod rows;
 mod single;
 mod stream;
 mod sum;
 
 pub use alone::{score_alone, totals_alone};
-pub use calculator::{Totals, recalc, score};
+pub use calculator::{Totals, recalc, score, totals_of_rows};
 
 #[cfg(test)]
 mod tests;

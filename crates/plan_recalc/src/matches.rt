@@ -1,46 +1,22 @@
-ghost use Rattle.std.specs.Prelude.{◌≡◌, ◌*◌, ◌≤◌, All, IfOk, false, length, map};
+ghost use Rattle.std.specs.Prelude.{◌≡◌, ◌*◌, ◌≤◌, All, IfOk, length, map};
 ghost use Rattle.plan_rules.specs.Closures.{capped};
 ghost use Rattle.plan_rules.specs.Limits.{score_limit};
 ghost use Rattle.plan_facts.specs.Limits.{weight_limit};
 ghost use Rattle.plan_rules.specs.Named.{weigh_closures};
-ghost use Rattle.plan_rules.specs.Range.{has_too_many_rows};
-ghost use Rattle.plan_rules.specs.Sound.{IsHandedIn, IsSound};
-ghost use Rattle.plan_rules.specs.Totals.{impact_sum, matches_of};
-ghost use Rattle.plan_recalc.specs.Facts.{facts_in, sizes_in};
-ghost use Rattle.plan_recalc.specs.Size.{AreWithin, row_size, rule_size};
+ghost use Rattle.plan_rules.specs.Sound.{IsHandedIn};
+ghost use Rattle.plan_rules.specs.Totals.{impact_sum};
+ghost use Rattle.plan_recalc.specs.Size.{AreWithin, row_size};
 ghost use Rattle.plan_recalc.specs.Totals.{match_of};
 
-use crate::facts::Facts;
 use crate::impact::impact_of;
-use crate::stream::rule_rows;
 use plan_facts::{List, Memory};
 use plan_rules::{Book, Kept, Match, Row, RuleDef, Rules, Steps};
 use plan_scores::Score;
 use std::alloc::Global;
 use std::sync::ledger::Ledger;
 
-/// The matches of a rule under a weight of at most a million.
-pub fn rule_matches<B: Book, L: Ledger>(
-    alloc: Global,
-    rules: &Rules<B>,
-    facts: &Facts,
-    rule: &RuleDef,
-    weight: u32,
-    steps: &mut Steps<L>,
-) -> Result<List<Match>, Memory>
-    requires keeps { ⟦<Rules<B> as Kept>⟧.keeps rules.now }
-    requires sound { IsSound (length rules.now.schema) rules.now.numbers rule.now }
-    requires few { has_too_many_rows (sizes_in facts.now) rule.now ≡ false }
-    requires weight { weight ≤ weight_limit }
-    ensures matches { IfOk result (λ ms. ms ≡ matches_of B.meaning (facts_in facts.now) rule.now weight) }
-    ensures size { IfOk result (AreWithin (rule_size (sizes_in facts.now) (capped rules.now.weighs) rule.now weight)) }
-{
-    let rows = rule_rows(alloc, rules, facts, rule, steps)?;
-    Ok(matches_of(alloc, rules, rule, weight, rows, steps)?)
-}
-
-/// Each row with its impact.
-fn matches_of<B: Book, L: Ledger>(
+/// Each row of a rule with its impact, under a weight of at most a million.
+pub fn matches_of<B: Book, L: Ledger>(
     alloc: Global,
     rules: &Rules<B>,
     rule: &RuleDef,

@@ -14,9 +14,10 @@ use indictments::Tallies;
 use plan_facts::{Memory, Plan, Raw};
 use plan_json::{Domain, Problem};
 use plan_moves::MoveMaker as Maker;
-use plan_recalc::{Totals, totals_alone};
+use plan_recalc::Totals;
 use plan_reports::Line;
 use plan_rules::{Book, Judges, Rules};
+use score_director::totals_by_network;
 use std::alloc::Global;
 
 /// Appends the line of a fact of a class, if it is a part of some match.
@@ -110,7 +111,7 @@ pub fn explain_text<B: Book>(
         let posed = posed_in B.meaning makes (domain_view domain.now) (problem_view problem) in
         IfOk result (λ text. text.items ≡ explain_text posed) }
 {
-    let totals = totals_alone(
+    let totals = totals_by_network(
         alloc,
         &domain.rules,
         &problem.plan,

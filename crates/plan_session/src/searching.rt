@@ -34,12 +34,12 @@ use plan_facts::{List, Memory, Plan};
 use plan_json::{Domain, Problem};
 use plan_moves::MoveMaker as Maker;
 use plan_ports::{Gate, Sink};
-use plan_recalc::{Totals, totals_alone};
+use plan_recalc::Totals;
 use plan_reports::Line;
 use plan_rules::{Book, Judges, Rules};
 use plan_scores::PlanScore;
 use plan_settings::{Construction, Settings};
-use score_director::Director;
+use score_director::{Director, totals_by_network};
 use search_core::Core;
 use std::alloc::Global;
 use std::thread::Threads;
@@ -314,7 +314,7 @@ pub fn print_best<B: Book, K: Sink>(
     ensures { let text = best_text B.meaning (domain_view domain.now) plan.now weights.now in
         Prints result text (K.state out.old) (K.state out.new) }
 {
-    let totals = totals_alone(alloc, &domain.rules, plan, weights)?;
+    let totals = totals_by_network(alloc, &domain.rules, plan, weights)?;
     let report = Report {
         schema: &domain.schema,
         rules: domain.rules.defs.as_slice(),

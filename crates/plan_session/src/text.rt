@@ -9,9 +9,9 @@ use crate::report::Report;
 use plan_facts::Memory;
 use plan_json::{Domain, Problem};
 use plan_moves::MoveMaker as Maker;
-use plan_recalc::totals_alone;
 use plan_reports::Line;
 use plan_rules::{Book, Judges, Rules};
+use score_director::totals_by_network;
 use std::alloc::Global;
 
 /// What `score` prints of a problem: the score of its plan as read, and what each rule adds to it.
@@ -25,7 +25,7 @@ pub fn score_text<B: Book>(
         let posed = posed_in B.meaning makes (domain_view domain.now) (problem_view problem) in
         IfOk result (λ text. text.items ≡ score_text posed) }
 {
-    let totals = totals_alone(
+    let totals = totals_by_network(
         alloc,
         &domain.rules,
         &problem.plan,

@@ -1,6 +1,6 @@
 -- Lists of which each member is taken alike.
-use Rattle.std.proofs.Common.{◌≡◌, ◌∙◌, ◌&&◌, ◌||◌, Bool, true, false, cond, List, [], ◌∷◌, ◌++◌, filter, map, get_or, refl, ap}
-use Rattle.std.specs.Prelude.{All}
+use Rattle.std.proofs.Common.{◌≡◌, ◌∙◌, ◌+◌, ◌&&◌, ◌||◌, ℕ, zero, suc, Bool, true, false, cond, List, [], ◌∷◌, ◌++◌, Some, filter, map, get_or, refl, slice_get, take, ap, add-one}
+use Rattle.std.specs.Prelude.{All, option_map}
 use Rattle.std.specs.List.{list_any}
 use Rattle.std.proofs.lemmas.List.Elements.{All-filter, All-head, All-map, All-tail}
 use Rattle.plan_rules.proofs.Rising.{All-flat_map}
@@ -65,3 +65,13 @@ All-joined P Q R test lefts rights each all others =
     let left = get_or lefts k d in
     All-map R (beside left) (filter (test left) rights)
     (All-filter (test left) (λ right. R (beside left right)) rights (λ j e there. each left (get_or rights j e) (all k d within) (others j e there))))
+
+-- what is made of one item more
+map_take_suc : {X Y : Type 0} (f : X → Y) (xs : List X) (k : ℕ) (y : Y) → Some y ≡ option_map f (slice_get xs k) → map f (take (suc k) xs) ≡ map f (take k xs) ++ y ∷ []
+map_take_suc f [] k y is = cc
+map_take_suc f (x ∷ xs) zero y is =
+    let e : f x ≡ y = cc in ap (λ (z : _). z ∷ []) e
+map_take_suc f (x ∷ xs) (suc k) y is = ap (λ (zs : List _). f x ∷ zs) (map_take_suc f xs k y is)
+
+pub map_take_more : {X Y : Type 0} (f : X → Y) (xs : List X) (k : ℕ) (y : Y) → Some y ≡ option_map f (slice_get xs k) → map f (take (k + 1) xs) ≡ map f (take k xs) ++ y ∷ []
+map_take_more f xs k y is = rw add-one (map_take_suc f xs k y is)

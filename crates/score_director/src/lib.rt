@@ -15,6 +15,7 @@ mod order;
 mod parts;
 mod rule;
 mod sums;
+mod totals;
 
 pub use director::Director;
 pub use laws::fresh_nets_stand_for_nothing;
@@ -23,6 +24,7 @@ pub use node::{Kind, NetNode, NodeAhead};
 pub use order::put_in_order;
 pub use rule::{RuleAhead, RuleNet};
 pub use sums::score_of_totals;
+pub use totals::totals_by_network;
 
 #[cfg(test)]
 mod tests;

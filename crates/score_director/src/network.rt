@@ -122,7 +122,7 @@ pub fn score_known<B: Book>(
 }
 
 /// The network that stands for a plan.
-fn network_of<B: Book, L: Ledger>(
+pub fn network_of<B: Book, L: Ledger>(
     alloc: Global,
     rules: &Rules<B>,
     plan: &Plan,

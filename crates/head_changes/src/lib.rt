@@ -9,6 +9,3 @@ mod turn;
 pub use changes::{ClassChange, clear};
 pub use gathering::gather;
 pub use let_go::{let_come_go, let_gone_go};
-
-#[cfg(test)]
-mod tests;

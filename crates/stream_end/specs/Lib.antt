@@ -1,6 +1,5 @@
 pub mod Ends
 pub mod Found
-pub mod Ids
 pub mod Laws
 pub mod Weights
 pub mod Whole

@@ -8,6 +8,3 @@ mod rows_end;
 pub use ahead::EndAhead;
 pub use laws::{end_sums_are_match_weights, ends_stand_by_meaning};
 pub use rows_end::EndNode;
-
-#[cfg(test)]
-mod tests;

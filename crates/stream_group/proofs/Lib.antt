@@ -12,4 +12,3 @@ pub mod Seen
 pub mod Starts
 pub mod Tallied
 pub mod Turning
-pub mod Handed

@@ -5,7 +5,6 @@ pub mod Grouped
 pub mod Keyed
 pub mod Laws
 pub mod Nodes
-pub mod Remainders
 pub mod Tally
 pub mod Turns
 pub mod Whole

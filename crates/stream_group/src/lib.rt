@@ -13,6 +13,3 @@ pub use ahead::GroupAhead;
 pub use group::GroupNode;
 pub use grouping::Grouping;
 pub use laws::group_rows_mean_groups;
-
-#[cfg(test)]
-mod tests;

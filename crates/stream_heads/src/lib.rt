@@ -16,6 +16,3 @@ pub use indexed::Indexed;
 pub use member::Member;
 pub use placed::Placed;
 pub use side::Side;
-
-#[cfg(test)]
-mod tests;

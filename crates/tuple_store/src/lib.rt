@@ -6,8 +6,6 @@ mod held;
 mod log;
 mod rows;
 mod store;
-#[cfg(test)]
-mod tests;
 mod trial;
 mod word;
 

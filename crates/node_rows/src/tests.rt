@@ -1,0 +1,10 @@
+mod changes;
+mod end;
+mod exists;
+mod fixtures;
+mod group;
+mod heads;
+mod index;
+mod join;
+mod keys;
+mod store;

@@ -1,0 +1,198 @@
+//! What goes and comes at the heads as a plan changes, and how it is let go.
+ghost use Rattle.std.specs.Prelude.{◌≡◌, ◌<◌, length};
+
+use head_changes::{ClassChange, clear, gather, let_come_go, let_gone_go};
+use plan_facts::{Kind, Memory, Plan};
+use plan_moves::Touch;
+use std::alloc::Global;
+use std::test::Fail;
+use stream_heads::{Cell, Cells, Heads};
+use test_plans::{ClassSketch, FactSketch, VarSketch, plan_of, schema_of};
+
+const TASK: u8 = 1;
+
+/// Slots, and tasks that have a slot each, which may be missing.
+const CLASSES: &[ClassSketch] = &[
+    ClassSketch("slot", &[("start", Kind::Number)], &[]),
+    ClassSketch("task", &[], &[VarSketch::Var("slot", 0)]),
+];
+
+const BEFORE: &[&[FactSketch]] = &[
+    &[FactSketch::Fact(1, &[10]), FactSketch::Fact(2, &[20])],
+    &[
+        FactSketch::Entity(1, &[], &[None]),
+        FactSketch::Entity(2, &[], &[Some(2)]),
+        FactSketch::Entity(3, &[], &[Some(1)]),
+    ],
+];
+
+/// The first task gets a slot, the second stays, the third goes, and a fourth one comes.
+const AFTER: &[&[FactSketch]] = &[
+    &[FactSketch::Fact(1, &[10]), FactSketch::Fact(2, &[20])],
+    &[
+        FactSketch::Entity(1, &[], &[Some(1)]),
+        FactSketch::Entity(2, &[], &[Some(2)]),
+        FactSketch::Entity(4, &[], &[None]),
+    ],
+];
+
+/// Where the record of each task stands last.
+#[derive(Clone, Copy)]
+struct Places {
+    one: Option<u64>,
+    two: Option<u64>,
+    three: Option<u64>,
+    four: Option<u64>,
+}
+
+/// The last place of a task.
+fn last_of(heads: &Heads, id: u32) -> Option<u64> {
+    heads.at(TASK, id).last().copied()
+}
+
+/// The last places of all tasks.
+fn last_places(heads: &Heads) -> Places {
+    Places {
+        one: last_of(heads, 1),
+        two: last_of(heads, 2),
+        three: last_of(heads, 3),
+        four: last_of(heads, 4),
+    }
+}
+
+/// How many records of a task stand.
+fn count_of(heads: &Heads, id: u32) -> usize {
+    heads.at(TASK, id).len()
+}
+
+/// Whether the place is one of these rows.
+fn is_in(rows: &[Cells], place: Option<u64>) -> bool {
+    match place {
+        Some(place) => Cells::of(&[Cell::Place(place)]).is_among(rows),
+        None => false,
+    }
+}
+
+/// Whether the rows are just these two places.
+fn are_both(rows: &[Cells], one: Option<u64>, other: Option<u64>) -> bool {
+    rows.len() == 2 && is_in(rows, one) && is_in(rows, other)
+}
+
+/// Whether there is one row, and it is this place.
+fn is_only(rows: &[Cells], place: Option<u64>) -> bool {
+    rows.len() == 1 && is_in(rows, place)
+}
+
+/// The plan of these facts.
+fn plan_with(alloc: Global, facts: &[&[FactSketch]]) -> Result<Plan, Fail> {
+    let schema = schema_of(alloc, CLASSES)?;
+    let plan = plan_of(alloc, &schema, facts)?;
+    Ok(plan)
+}
+
+/// What the tasks of facts are for the heads.
+fn gather_tasks(
+    alloc: Global,
+    heads: &mut Heads,
+    facts: &[&[FactSketch]],
+    changes: &mut [ClassChange],
+) -> Result<(), Fail>
+    requires { 1 < length changes.old }
+    ensures { length changes.new ≡ length changes.old }
+{
+    let plan = plan_with(alloc, facts)?;
+    gather_all_tasks(heads, &plan, changes)?;
+    Ok(())
+}
+
+/// What the tasks of a plan are for the heads.
+fn gather_all_tasks(
+    heads: &mut Heads,
+    plan: &Plan,
+    changes: &mut [ClassChange],
+) -> Result<(), Memory>
+    requires { 1 < length changes.old }
+    ensures { length changes.new ≡ length changes.old }
+{
+    let one = Touch { class: TASK, id: 1 };
+    let two = Touch { class: TASK, id: 2 };
+    let three = Touch { class: TASK, id: 3 };
+    let four = Touch { class: TASK, id: 4 };
+    gather(heads, plan, &[two, one, four, three], changes)?;
+    Ok(())
+}
+
+/// What was seen of a change.
+#[derive(Clone, Copy)]
+struct Seen {
+    gone: bool,
+    come: bool,
+    placed: bool,
+    stays: bool,
+}
+
+/// The first tasks come, then they change.
+fn see_change(alloc: Global, heads: &mut Heads, changes: &mut [ClassChange]) -> Result<Seen, Fail>
+    requires { 1 < length changes.old }
+{
+    gather_tasks(alloc, heads, BEFORE, changes)?;
+    let old = last_places(heads);
+    let first = are_both(&changes[1].taking(false).come, old.two, old.three);
+    gather_tasks(alloc, heads, AFTER, changes)?;
+    let new = last_places(heads);
+    let all = changes[1].taking(true);
+    let placed = changes[1].taking(false);
+    Ok(Seen {
+        gone: are_both(&all.gone, old.one, old.three) && is_only(&placed.gone, old.three),
+        come: are_both(&all.come, new.one, new.four) && is_only(&placed.come, new.one),
+        placed: first,
+        stays: new.two == old.two && count_of(heads, 1) == 2,
+    })
+}
+
+/// The first tasks come, then they change, and what came is let go; they change again, and what went is let go.
+fn see_both_sides(
+    alloc: Global,
+    heads: &mut Heads,
+    changes: &mut [ClassChange],
+) -> Result<Seen, Fail>
+    requires { 1 < length changes.old }
+{
+    gather_tasks(alloc, heads, BEFORE, changes)?;
+    let old = last_places(heads);
+    gather_tasks(alloc, heads, AFTER, changes)?;
+    let_come_go(heads, changes);
+    let back = last_places(heads);
+    let come = back.one == old.one && back.three == old.three && back.four.is_none();
+    gather_tasks(alloc, heads, AFTER, changes)?;
+    let new = last_places(heads);
+    let_gone_go(heads, changes);
+    let last = last_places(heads);
+    clear(changes);
+    Ok(Seen {
+        gone: last.one == new.one && last.three.is_none() && count_of(heads, 1) == 1,
+        come,
+        placed: new.one != old.one && changes[1].taking(true).come.is_empty(),
+        stays: last.two == old.two && last.four == new.four,
+    })
+}
+
+#[test]
+fn records_that_changed_go_and_come(rt: HostRuntime) -> Result<(), Fail> {
+    let alloc = rt.alloc();
+    let mut heads = Heads::new(alloc);
+    let mut changes = [ClassChange::new(alloc), ClassChange::new(alloc)];
+    let seen = see_change(alloc, &mut heads, &mut changes)?;
+    assert!(rt; seen.gone && seen.come && seen.placed && seen.stays);
+    Ok(())
+}
+
+#[test]
+fn records_that_came_or_went_are_let_go(rt: HostRuntime) -> Result<(), Fail> {
+    let alloc = rt.alloc();
+    let mut heads = Heads::new(alloc);
+    let mut changes = [ClassChange::new(alloc), ClassChange::new(alloc)];
+    let seen = see_both_sides(alloc, &mut heads, &mut changes)?;
+    assert!(rt; seen.gone && seen.come && seen.placed && seen.stays);
+    Ok(())
+}

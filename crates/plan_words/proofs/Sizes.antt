@@ -1,6 +1,6 @@
 -- The sizes of generated problems, and how many workers judge how many candidates at once, are in their range.
-use Rattle.std.proofs.Common.{◌≡◌, ◌≤◌, ◌-◌, ◌^◌, ◌&&◌, ℕ, Bool, true, false, nat_le, if◌then◌else◌, List, [], ◌∷◌, Option, Some, None, is_none, option_to_list, refl, sym, subst, arith}
-use Rattle.plan_words.specs.Command.{AreHands, IsSized, buffer_of, command, command_of, explain, gen, given, has_no_option, number_and_size, only_name, replay, score, solve, tour, workers_of}
+use Rattle.std.proofs.Common.{◌≡◌, ◌≤◌, ◌-◌, ◌^◌, ◌&&◌, ℕ, Bool, true, false, nat_le, if◌then◌else◌, List, [], ◌∷◌, Option, Some, None, is_none, option_to_list, refl, subst, arith}
+use Rattle.plan_words.specs.Command.{AreHands, IsSized, buffer_of, command, command_of, given, has_no_option, number_and_size, only_name, workers_of}
 use Rattle.std.specs.Str.Parse.{digits_value}
 use Rattle.plan_words.specs.Items.{Word}
 use Rattle.plan_words.specs.Values.{are_names, is_number, number_in, number_or}
@@ -9,7 +9,7 @@ use Rattle.plan_words.specs.Sorted.{Sorted, one, sorted_words, two}
 use Rattle.plan_words.specs.declared.verb.Verb.{Verb}
 use Rattle.plan_words.specs.declared.verb.Verb.TheVariants as verbs
 use Rattle.plan_words.specs.declared.command.Command.{Command}
-use Rattle.plan_words.specs.declared.command.Command.TheVariants.{Solve, Replay, Score, Explain, Gen, Tour}
+use Rattle.plan_words.specs.declared.command.Command.TheVariants.{Solve, Replay, Gen, Tour}
 
 -- what is said of the value, where there is one
 abbrev pub Each : {X : Type 0} → (X → Type 0) → Option X → Type 0

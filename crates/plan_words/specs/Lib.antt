@@ -5,5 +5,6 @@ pub mod Line
 pub mod Values
 pub mod Verb
 pub mod Command
+pub mod Wanted
 pub mod Canonical
 pub mod Parsers

@@ -23,7 +23,7 @@ use std::alloc::Global;
 /// Reads the command that the words after the program's name are.
 ///
 /// The rules of the words are tested first, which takes no memory; a line that keeps them is
-/// handed to its command's parser in one order. Usage comes just where the words are no command.
+/// handed to the parser in one order. Usage comes just where the words are no command.
 pub fn read_words(alloc: Global, words: &[Text]) -> Result<Command, WordFault>
     ensures command { IfOk result (λ c. command words.now ≡ Some c) }
     ensures sized { IfOk result IsSized }

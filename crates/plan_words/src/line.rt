@@ -1,10 +1,13 @@
 ghost use Rattle.std.specs.Prelude.{◌≡◌, ◌++◌, [], true, false, Some, None, is_some, option_map, IfOk, OnOk, IfSome, IfNone, OnSome, option_to_list, ◌∷◌, ◌≤◌, length};
 ghost use Rattle.std.specs.Str.{is_utf8};
 ghost use Rattle.plan_words.specs.Canonical.{canonical, option_words};
+ghost use Rattle.clap.specs.Words.{found_of};
 ghost use Rattle.plan_words.specs.Line.{texts, word_at};
+ghost use Rattle.plan_words.specs.Parsers.{HasNoGap, found_line};
 ghost use Rattle.plan_words.specs.Sorted.{Sorted, one, two, sorted_words};
 ghost use Rattle.plan_words.specs.Adding.{GoesOn, with_word, with_value, filled, with_words, nothing};
 
+use clap::ArgMatches;
 use plan_facts::{Memory, Text};
 use std::alloc::Global;
 use std::marker::Model;
@@ -91,8 +94,10 @@ impl<'a> Line<'a> {
     /// The words of the command that begins with `first`, in one order: the options, each with its
     /// value in one word, and then the positional words.
     pub fn canonical(&self, alloc: Global, first: &str) -> Result<Vec<String>, Memory>
-        ensures { IfOk result (λ words. texts words.items ≡ canonical first.now self.now) }
+        ensures words { IfOk result (λ words. texts words.items ≡ canonical first.now self.now) }
+        ensures at_most_two { length self.now.positional ≤ 2 }
     {
+        let (word, next) = (self.first, self.second);
         let mut words = Vec::new(alloc);
         push(alloc, &mut words, first)?;
         push_option(alloc, &mut words, "--feed=", self.feed)?;
@@ -100,9 +105,24 @@ impl<'a> Line<'a> {
         push_option(alloc, &mut words, "--workers=", self.workers)?;
         push_option(alloc, &mut words, "--buffer=", self.buffer)?;
         push(alloc, &mut words, "--")?;
-        push_positional(alloc, &mut words, self.first)?;
-        push_positional(alloc, &mut words, self.second)?;
+        push_positional(alloc, &mut words, word)?;
+        push_positional(alloc, &mut words, next)?;
         Ok(words)
+    }
+
+    /// The line whose words a parser read.
+    pub fn read_from(matches: &ArgMatches<'a>) -> Line<'a>
+        requires { HasNoGap (found_of matches.now) }
+        ensures { result ≡ found_line (found_of matches.now) }
+    {
+        Line {
+            first: matches.get_str("first"),
+            second: matches.get_str("second"),
+            feed: matches.get_str("feed"),
+            journal: matches.get_str("journal"),
+            workers: matches.get_str("workers"),
+            buffer: matches.get_str("buffer"),
+        }
     }
 
     // Takes in the first of some words, with the next one where that is its value. Answers the others.

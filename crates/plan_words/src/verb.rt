@@ -10,7 +10,7 @@ pub enum Verb {
 }
 
 impl Verb {
-    ghost use Rattle.std.specs.Prelude.{◌≡◌};
+    ghost use Rattle.std.specs.Prelude.{◌≡◌, Some};
     ghost use Rattle.plan_words.specs.Verb.{verb};
 
     pub fn of(word: &[u8]) -> Option<Verb>
@@ -24,6 +24,20 @@ impl Verb {
             b"gen" => Some(Verb::Gen),
             b"tour" => Some(Verb::Tour),
             _ => None,
+        }
+    }
+
+    /// The word that the verb is.
+    pub fn name(self) -> &'static str
+        ensures { verb result.now ≡ Some self }
+    {
+        match self {
+            Verb::Solve => "solve",
+            Verb::Replay => "replay",
+            Verb::Score => "score",
+            Verb::Explain => "explain",
+            Verb::Gen => "gen",
+            Verb::Tour => "tour",
         }
     }
 }

@@ -28,7 +28,8 @@ impl Model for Room {
 
     ghost view = { λ room. vec_capacity room.facts };
 
-    ghost invariant = { λ room. AreEmpty room.ids.items room.facts.items × (vec_capacity room.ids ≡ vec_capacity room.facts) };
+    ghost invariant = { λ room. AreEmpty room.ids.items room.facts.items
+        × (vec_capacity room.ids ≡ vec_capacity room.facts) };
 }
 
 /// Whether a variable, with this value class, holds the fact of this class with this id.

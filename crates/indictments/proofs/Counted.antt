@@ -1,31 +1,20 @@
 -- All matches of a plan in range are few.
-use Rattle.std.proofs.Common.{◌≡◌, ◌∙◌, ◌+◌, ◌*◌, ◌<◌, ◌≤◌, ℕ, false, List, [], ◌∷◌, All, length, map, take, refl, sym, ap, arith, ⊎_elim}
-use Rattle.std.proofs.lemmas.Bool.{cases_lt}
-use Rattle.std.proofs.lemmas.List.{get_or-map, get_or_past, length-append, length-map, take_all}
+use Rattle.std.proofs.Common.{◌≡◌, ◌∙◌, ◌+◌, ◌*◌, ◌≤◌, ℕ, false, List, [], ◌∷◌, All, length, take, refl, sym, ap, arith}
+use Rattle.std.proofs.lemmas.List.{length-append, length-map, take_all}
 use Rattle.std.proofs.lemmas.List.Elements.{All-head, All-tail}
 use Rattle.std.proofs.lemmas.List.Sums.{sum_by-append, sum_by-cons}
-use Rattle.plan_facts.specs.Plan.{ClassView, PlanView, class_of, no_class, records_of, resolved}
 use Rattle.plan_rules.specs.declared.row.Match.{Match}
 use Rattle.plan_rules.specs.declared.rule.RuleDef.{RuleDef}
 use Rattle.plan_rules.specs.declared.row.Part.{Part}
 use Rattle.plan_rules.specs.Limits.{row_limit, score_limit}
 use Rattle.plan_rules.specs.Meaning.{Meaning}
-use Rattle.plan_rules.specs.Range.{AreWithin, bound_at_end, has_too_many_rows, head_bound, rule_bound, size_of, sizes_of}
+use Rattle.plan_rules.specs.Range.{AreWithin, bound_at_end, has_too_many_rows, head_bound, rule_bound}
 use Rattle.plan_rules.specs.Rows.{Facts, rule_rows}
 use Rattle.plan_rules.specs.Totals.{all_matches, impact_of, matches_of}
 use Rattle.plan_rules.proofs.Lengths.{bound_at_end-le, length-rule_rows-le}
 use Rattle.plan_recalc.specs.Size.{AreAllWithin, all_sizes, impact_sizes, score_size}
 use Rattle.indictments.specs.Indicts.{all_of}
 use Rattle.indictments.specs.Tallies.{AreFew}
-
--- no class of a plan has more records than are counted
-pub plan_within : (plan : PlanView) → AreWithin (sizes_of plan) (records_of plan)
-unfolding records_of
-plan_within plan = λ class.
-    let count : length (map (resolved plan class) (class_of plan class).facts) ≡ length (class_of plan class).facts = length-map (class_of plan class).facts (resolved plan class) in
-    ⊎_elim (λ (there : class < length plan.classes). let same : size_of (sizes_of plan) class ≡ length (class_of plan class).facts = get_or-map (λ (view : ClassView). length view.facts) plan.classes class no_class 0 there in omega arith)
-    (λ (past : length plan.classes ≤ class). let none : length (class_of plan class).facts ≡ 0 = ap (λ (view : ClassView). length view.facts) (get_or_past plan.classes class no_class past) in omega arith)
-    (cases_lt class (length plan.classes))
 
 -- a rule has few matches where none of its streams may have too many rows
 few_of_rule : (m : Meaning) (facts : Facts) (sizes : List ℕ) (rule : RuleDef) (weight : ℕ) → AreWithin sizes facts → has_too_many_rows sizes rule ≡ false → length (matches_of m facts rule weight) ≤ row_limit

@@ -1,5 +1,5 @@
 -- A record that is put back, and a fact that was made and is taken back.
-use Rattle.std.proofs.Common.{◌≡◌, ◌==◌, ◌<◌, ◌≤◌, ◌+◌, ◌-◌, ◌∙◌, ℕ, ℤ, Bool, true, false, cond, Option, None, Some, IsTrue, IsSomeAnd, List, [], ◌∷◌, ◌++◌, zero, suc, length, take, set, map, get_or, slice_get, eqb, refl, sym, ap, subst, arith}
+use Rattle.std.proofs.Common.{◌≡◌, ◌==◌, ◌<◌, ◌≤◌, ◌+◌, ◌-◌, ◌∙◌, ℕ, ℤ, Bool, true, false, cond, Option, None, Some, IsSomeAnd, List, [], ◌∷◌, ◌++◌, zero, suc, length, take, set, map, get_or, slice_get, eqb, refl, sym, ap, subst, arith}
 use Rattle.std.proofs.Math.Seq.{take-append_seam}
 use Rattle.std.proofs.lemmas.List.{get_or-map, get_or-set_same, get_or_default, length-set, length_push, set-get_or, set-set}
 use Rattle.plan_facts.specs.declared.record.Raw.{Raw}

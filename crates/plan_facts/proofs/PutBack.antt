@@ -1,5 +1,5 @@
 -- A fact that was removed and is put back.
-use Rattle.std.proofs.Common.{◌≡◌, ◌≢◌, ◌==◌, ◌<◌, ◌≤◌, ◌+◌, ◌∙◌, ℕ, zero, suc, Bool, true, false, cond, not, is_some, Bor, Option, Some, None, All, List, [], ◌∷◌, ◌++◌, length, map, filter, set, get_or, eqb, take, drop, refl, sym, ap, subst, arith}
+use Rattle.std.proofs.Common.{◌≡◌, ◌==◌, ◌<◌, ◌+◌, ◌∙◌, ℕ, suc, Bool, true, false, cond, not, is_some, Bor, Option, Some, None, All, List, [], ◌∷◌, ◌++◌, length, map, filter, set, get_or, eqb, take, drop, refl, sym, ap, subst, arith}
 use Rattle.std.specs.Prelude.{nat_lt}
 use Rattle.std.specs.List.{insert, list_any}
 use Rattle.std.specs.Option.{option_copied}
@@ -10,9 +10,9 @@ use Rattle.std.proofs.lemmas.List.Elements.{All-filter, All-head, All-set, All-t
 use Rattle.std.proofs.lemmas.List.Sums.{count_by-le-length, sum_by-cons}
 use Rattle.std.proofs.lemmas.Slice.Zip.{AllZip-long}
 use Rattle.plan_facts.specs.declared.record.Raw.{Raw}
-use Rattle.plan_facts.specs.Plan.{ClassView, PlanView, class_of, fact_of, ids_in, no_class, plan_with, record_with_id, AreIncreasing, IsClassOf, IsPlan, IsRecordOf}
-use Rattle.plan_facts.specs.PlanBack.{IsRemoved, PutsBack, RemovalView, classes_put, holders_in, lower_than, record_holds, record_like, records_put, with_back, with_records}
-use Rattle.plan_facts.specs.PlanChanges.{class_let_go, record_let_go, with_record, without_fact, without_record}
+use Rattle.plan_facts.specs.Plan.{ClassView, PlanView, class_of, ids_in, no_class, plan_with, record_with_id, AreIncreasing, IsClassOf, IsPlan, IsRecordOf}
+use Rattle.plan_facts.specs.PlanBack.{IsRemoved, RemovalView, classes_put, holders_in, lower_than, record_holds, record_like, records_put, with_back, with_records}
+use Rattle.plan_facts.specs.PlanChanges.{class_let_go, record_let_go, with_record, without_record}
 use Rattle.plan_facts.proofs.Back.{put_raw, with_facts}
 use Rattle.plan_facts.proofs.Gone.{removed_at}
 use Rattle.plan_facts.proofs.Places.{changed_none, ids_in-changed, eqb_other, eqb_same, found_holds, increasing_head, increasing_tail, same_eqb}

@@ -4,7 +4,7 @@ use Rattle.std.proofs.lemmas.Bool.{cases_lt}
 use Rattle.std.proofs.lemmas.List.{get_or-map, get_or_past, length-map, same_lists}
 use Rattle.plan_facts.specs.declared.record.Rec.{Rec}
 use Rattle.plan_facts.specs.Plan.{ClassView, PlanView, no_class, class_of, resolved, records_of}
-use Rattle.plan_rules.specs.Range.{AreWithin, sizes_of}
+use Rattle.plan_rules.specs.Range.{sizes_of}
 use Rattle.plan_recalc.specs.Facts.{facts_in, sizes_in}
 
 -- a class past the others has no facts
@@ -37,10 +37,3 @@ sizes_listed plan lists all each =
     let there' : class < length plan.classes = omega arith in
     get_or-map (λ (list : List Rec). length list) lists class [] d there ∙ ap (λ (list : List Rec). length list) (each class there) ∙ length-records_of plan class
     ∙ sym (get_or-map (λ (class : ClassView). length class.facts) plan.classes class no_class d there'))
-
--- no class has more records than its size
-pub plan_within : (plan : PlanView) → AreWithin (sizes_of plan) (records_of plan)
-plan_within plan = λ class.
-    ⊎_elim (λ (there : class < length plan.classes). let size = get_or-map (λ (c : ClassView). length c.facts) plan.classes class no_class 0 there in omega (arith, size, length-records_of plan class))
-    (λ (past : length plan.classes ≤ class). let none : length (records_of plan class) ≡ 0 = ap (λ (list : List Rec). length list) (sym (no_records plan class past)) in omega (arith, none))
-    (cases_lt class (length plan.classes))

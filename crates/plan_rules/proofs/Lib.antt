@@ -18,3 +18,4 @@ pub mod Scores
 pub mod Streams
 pub mod Sums
 pub mod Untrue
+pub mod Within

@@ -1,5 +1,5 @@
 -- All records of a plan come at its keys, and there are no more of them than its sizes say.
-use Rattle.std.proofs.Common.{◌≡◌, ◌∙◌, ◌<◌, ◌≤◌, ◌+◌, ◌==◌, ◌&&◌, ◌||◌, ℕ, zero, suc, Bool, true, false, cond, not, List, [], ◌∷◌, ◌++◌, All, map, filter, length, get_or, refl, sym, ap, subst, arith, inl, inr}
+use Rattle.std.proofs.Common.{◌≡◌, ◌∙◌, ◌<◌, ◌≤◌, ◌+◌, ◌&&◌, ◌||◌, ℕ, zero, suc, Bool, true, false, cond, not, List, [], ◌∷◌, ◌++◌, All, map, filter, length, get_or, refl, sym, ap, arith, inl, inr}
 use Rattle.std.specs.Prelude.{◌≢◌}
 use Rattle.std.specs.List.{flat_map, list_any, range_with_len}
 use Rattle.std.proofs.lemmas.Bool.{cases_lt}
@@ -11,7 +11,6 @@ use Rattle.plan_facts.specs.Plan.{ClassView, IsPlan, PlanView, class_of, ids_of,
 use Rattle.plan_facts.proofs.Places.{eqb_same}
 use Rattle.plan_facts.proofs.Sound.{class_past}
 use Rattle.plan_moves.specs.declared.edit.Touch.{Touch}
-use Rattle.plan_rules.specs.Range.{AreWithin, size_of, sizes_of}
 use Rattle.plan_rules.proofs.Rising.{All-flat_map, Rising, pairs_from_rising, rising-flat_map, rising-map, rising_from_pairs}
 use Rattle.head_changes.specs.Takers.{FactsTurn, is_key, is_keyed}
 use Rattle.score_director.specs.Fresh.{no_facts}
@@ -121,16 +120,6 @@ all_turn plan sound = record {
   new = plans_are_facts plan sound;
   same = λ class. sym (filters_none (is_key (all_keys plan) class) (records_of plan class) (λ k d within. keyed plan class k d sound within));
 }
-
--- no class has more records than its size
-pub plan_within : (plan : PlanView) → AreWithin (sizes_of plan) (records_of plan)
-unfolding records_of
-plan_within plan = λ class.
-    let count : length (records_of plan class) ≡ length (class_of plan class).facts = length-map (class_of plan class).facts (resolved plan class) in
-    elim (cases_lt class (length plan.classes)) [
-      | inl below ↦ (let size = get_or-map (λ (c : ClassView). length c.facts) plan.classes class no_class 0 below in omega (arith, count, size))
-      | inr past ↦ (let e = ap (λ (v : ClassView). length v.facts) (class_past plan class past) in omega (arith, count, e))
-    ]
 
 -- what is made of one number more
 flat_more : {X : Type 0} (f : ℕ → List X) (a n : ℕ) → flat_map f (range_with_len a (suc n)) ≡ flat_map f (range_with_len a n) ++ f (a + n)

@@ -40,7 +40,8 @@ use Rattle.score_director.specs.Worth.{HasTurned, IsNetFor}
 use Rattle.score_director.proofs.About.{about_known, about_turns}
 use Rattle.score_director.proofs.Alike.{KeepsOthers, change_others}
 use Rattle.score_director.proofs.AsMany.{as_many_classes}
-use Rattle.score_director.proofs.AllKeys.{all_turn, keys_known, plan_within}
+use Rattle.score_director.proofs.AllKeys.{all_turn, keys_known}
+use Rattle.plan_rules.proofs.Within.{plan_within}
 use Rattle.score_director.proofs.Turned.{applied_sound}
 use Rattle.score_director.proofs.Turning.{edit_turns_facts, plans_are_facts}
 use Rattle.score_director.proofs.Worth.{sizes_of-applied}

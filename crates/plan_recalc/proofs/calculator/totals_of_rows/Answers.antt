@@ -10,7 +10,7 @@ use Rattle.plan_rules.specs.Totals.{all_matches, score_of}
 use Rattle.plan_rules.proofs.Accepted.{sound_rules}
 use Rattle.plan_rules.proofs.Lengths.{score_in_range}
 use Rattle.plan_recalc.specs.RulesFrom.{AreTotals}
-use Rattle.plan_recalc.proofs.Listed.{plan_within}
+use Rattle.plan_rules.proofs.Within.{plan_within}
 use Rattle.plan_recalc.proofs.OneMore.{all_before, matches_end, no_totals, room_here, rule_at, score_end, totals_more}
 use Rattle.plan_recalc.proofs.calculator.totals_of_rows.Goals as goal
 

@@ -2,7 +2,8 @@ use Rattle.plan_facts.specs.Plan.{records_of}
 use Rattle.plan_rules.specs.Range.{sizes_of}
 use Rattle.plan_rules.proofs.Accepted.{few_rules}
 use Rattle.plan_rules.proofs.Lengths.{few_rows_in_range}
-use Rattle.indictments.proofs.Counted.{few_matches_all, plan_within}
+use Rattle.plan_rules.proofs.Within.{plan_within}
+use Rattle.indictments.proofs.Counted.{few_matches_all}
 use Rattle.plan_session.proofs.Whole.{few_matches}
 use Rattle.plan_session.proofs.Explained.{explained_is}
 use Rattle.plan_session.proofs.explaining.explain_text.Goals as goal

@@ -1,4 +1,4 @@
-use Rattle.std.proofs.Common.{◌∙◌, ap, arith, sym}
+use Rattle.std.proofs.Common.{◌∙◌, ap, arith}
 use Rattle.plan_facts.specs.Plan.{PlanView, missing_in, plan_with}
 use Rattle.plan_facts.specs.PlanBack.{with_raw}
 use Rattle.plan_facts.proofs.Back.{WasRestored, few_missing, was_restored}

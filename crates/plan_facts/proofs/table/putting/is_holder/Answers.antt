@@ -1,4 +1,4 @@
-use Rattle.std.proofs.Common.{◌≡◌, ◌∙◌, ◌<◌, ℕ, List, Option, ap, arith, false, length, subst, sym, true, zip}
+use Rattle.std.proofs.Common.{◌≡◌, ◌∙◌, ℕ, List, Option, ap, arith, false, length, subst, sym, true, zip}
 use Rattle.std.specs.List.{list_any}
 use Rattle.plan_facts.specs.PlanBack.{holds}
 use Rattle.plan_facts.proofs.Spared.{held_nowhere, held_somewhere}

@@ -12,6 +12,3 @@ mod members;
 pub use feed::Feed;
 pub use feed_lines::FeedFault;
 pub use line::body_of;
-
-#[cfg(test)]
-mod tests;

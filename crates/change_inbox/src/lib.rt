@@ -14,6 +14,3 @@ pub use inbox::Inbox;
 pub use journal::Journal;
 pub use plan_facts::Memory;
 pub use seat::Seat;
-
-#[cfg(test)]
-mod tests;

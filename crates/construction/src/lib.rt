@@ -11,6 +11,3 @@ mod todo;
 pub use alone::{order_alone, place_alone};
 pub use next::{Course, Placing, next_placing, place};
 pub use order::placing_order;
-
-#[cfg(test)]
-mod tests;

@@ -12,6 +12,3 @@ pub use alone::take_alone;
 pub use feed::read_feed;
 pub use laws::lines_are_taken_in_order;
 pub use taking::{take_line, take_lines};
-
-#[cfg(test)]
-mod tests;

@@ -14,6 +14,3 @@ pub use fed::Fed;
 pub use feeder::feed_all;
 pub use laws::no_post_is_refused;
 pub use run::{close_run, open_run};
-
-#[cfg(test)]
-mod tests;

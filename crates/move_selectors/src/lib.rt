@@ -13,6 +13,3 @@ mod values;
 
 pub use pool::Pool;
 pub use selectors::candidate;
-
-#[cfg(test)]
-mod tests;

@@ -15,8 +15,3 @@ pub use kit::Kit;
 pub use laws::workers_search;
 pub use team::Team;
 pub use worker::Worker;
-
-#[cfg(test)]
-mod gates;
-#[cfg(test)]
-mod tests;

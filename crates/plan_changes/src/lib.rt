@@ -17,6 +17,3 @@ pub use line::{Body, LineFault, Post, Spot, StopCause};
 pub use preparing::prepare;
 pub use ready::Ready;
 pub use undo::Undo;
-
-#[cfg(test)]
-mod tests;

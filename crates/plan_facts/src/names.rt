@@ -78,26 +78,3 @@ impl Names {
         self.texts.truncate(count as usize);
     }
 }
-
-#[cfg(test)]
-mod tests {
-    use super::*;
-    use std::test::Fail;
-
-    #[test]
-    fn numbers_texts_in_order_of_first_sight(rt: HostRuntime) -> Result<(), Fail> {
-        let mut names = Names::new(rt.alloc());
-        assert_eq!(rt; names.find(b"ann"), None);
-        for (text, number) in [("ann", 0), ("", 1), ("bob", 2), ("ann", 0), ("", 1)] {
-            assert!(rt; names.count() < 9);
-            assert_eq!(rt; names.number(text.as_bytes())?, number, "{text}");
-        }
-        assert_eq!(rt; names.count(), 3);
-        names.cut(2);
-        assert_eq!(rt; names.count(), 2);
-        assert_eq!(rt; names.find(b""), Some(1));
-        assert_eq!(rt; names.find(b"bob"), None);
-        assert_eq!(rt; names.number(b"cy")?, 2);
-        Ok(())
-    }
-}

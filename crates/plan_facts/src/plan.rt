@@ -394,5 +394,3 @@ impl Plan {
 mod back;
 pub mod putting;
 mod refill;
-#[cfg(test)]
-mod tests;

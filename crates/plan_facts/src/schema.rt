@@ -168,5 +168,3 @@ fn may_be_range(classes: &[ClassDef], values: u8) -> bool
 }
 
 mod copy;
-#[cfg(test)]
-mod tests;

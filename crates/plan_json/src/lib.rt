@@ -9,6 +9,3 @@ mod read;
 pub use domain::Domain;
 pub use problem::Problem;
 pub use read::{BYTE_LIMIT, read_problem};
-
-#[cfg(test)]
-mod tests;

@@ -9,6 +9,3 @@ mod maker;
 pub use choices::{choice_at, choice_count};
 pub use edit::{Edit, Set, Touch};
 pub use maker::{MoveMaker, make_by};
-
-#[cfg(test)]
-mod tests;

@@ -30,6 +30,3 @@ pub fn make_by(
 {
     maker.make(plan, words, into)
 }
-
-#[cfg(test)]
-mod tests;

@@ -21,6 +21,3 @@ mod sum;
 
 pub use alone::{score_alone, totals_alone};
 pub use calculator::{Totals, recalc, score, totals_of_rows};
-
-#[cfg(test)]
-mod tests;

@@ -30,6 +30,3 @@ pub use row::{Delta, Match, Part, Row};
 pub use rule::{Collect, Harder, Head, Joiner, Named, Node, RuleDef};
 pub use rules::Rules;
 pub use steps::Steps;
-
-#[cfg(test)]
-mod tests;

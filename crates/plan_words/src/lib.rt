@@ -9,8 +9,6 @@ mod line;
 mod parsers;
 mod reading;
 mod rules;
-#[cfg(test)]
-mod tests;
 mod values;
 mod verb;
 

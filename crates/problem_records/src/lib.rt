@@ -11,6 +11,3 @@ mod records;
 mod shape;
 
 pub use records::{Records, read_records};
-
-#[cfg(test)]
-mod tests;

@@ -3,8 +3,6 @@
 
 mod root;
 mod settings;
-#[cfg(test)]
-mod tests;
 mod weights;
 mod words;
 

@@ -25,6 +25,3 @@ pub use order::put_in_order;
 pub use rule::{RuleAhead, RuleNet};
 pub use sums::score_of_totals;
 pub use totals::totals_by_network;
-
-#[cfg(test)]
-mod tests;

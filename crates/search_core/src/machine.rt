@@ -14,9 +14,6 @@ use plan_search::Found;
 use plan_settings::Settings;
 use std::alloc::Global;
 
-#[cfg(test)]
-mod tests;
-
 /// How the search stands.
 #[derive(Clone, Copy, Debug, PartialEq, Eq)]
 enum Phase {

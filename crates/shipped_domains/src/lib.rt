@@ -13,6 +13,3 @@ pub use closures::{Closures, ShippedKey, ShippedTest, ShippedWeigh};
 pub use making::{Act, with_shipped_domains};
 pub use plan_rules::{KeyBody, Row, TestBody, WeighBody};
 pub use rules::shipped_rules_of;
-
-#[cfg(test)]
-mod tests;

@@ -1,8 +1,0 @@
-use Rattle.std.proofs.Common.{◌≡◌}
-use Rattle.change_inbox.proofs.tests.post_all.Given as goal
-
-abbrev pub invariant-loop-n : goal.invariant-loop-n
-invariant-loop-n g l = record {
-  inbox : l.seat.inbox ≡ l.inbox;
-  number : l.seat.number ≡ l.fn.seat.number;
-}

@@ -1,6 +1,0 @@
-use Rattle.move_selectors.specs.Pool.{IsPoolOf}
-use Rattle.move_selectors.proofs.tests.expect.Given as goal
-
--- the pool stays that of the plan
-abbrev pub invariant-loop-case : goal.invariant-loop-case
-invariant-loop-case _ l = IsPoolOf l.plan l.pool

@@ -1,5 +1,0 @@
-use Rattle.std.proofs.Common.{length}
-use Rattle.move_workers.proofs.tests.changes.+take.Given as goal
-
-abbrev pub decreases-take : goal.decreases-take
-decreases-take g l = length l.turns.now

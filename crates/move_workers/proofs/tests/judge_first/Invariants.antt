@@ -1,6 +1,0 @@
-use Rattle.std.proofs.Common.{◌≡◌}
-use Rattle.move_workers.proofs.tests.judge_first.Given as goal
-
--- the team stays as it was
-abbrev pub invariant-batches : goal.invariant-batches
-invariant-batches g l = l.team ≡ l.fn.team

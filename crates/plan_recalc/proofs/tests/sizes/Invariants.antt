@@ -1,6 +1,0 @@
-use Rattle.std.proofs.Common.{◌≡◌, map, take, length}
-use Rattle.plan_recalc.proofs.tests.sizes.Given as goal
-
--- the sizes of the classes so far
-abbrev pub invariant-loop-class : goal.invariant-loop-class
-invariant-loop-class l = l.sizes ≡ map (λ class. length class.facts) (take l.class l.plan.classes)

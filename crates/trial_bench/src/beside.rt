@@ -1,9 +1,11 @@
 //! An index beside a plain map of lists: the same moves with both.
-ghost use Rattle.std.specs.Prelude.{◌≡◌, false};
+ghost use Rattle.std.specs.Prelude.{◌≡◌, false, OnOk};
+ghost use Rattle.trial_bench.specs.Free.{IsFreeFrom};
 
 use crate::clocked::{no_memory, tenths_since};
 use crate::index::{self, read_buckets};
 use crate::plain::{self, Plain};
+use plan_facts::Memory;
 use std::alloc::Global;
 use std::io;
 use std::rt::Clock;
@@ -29,21 +31,47 @@ fn shorter(a: Spent, b: Spent) -> Spent {
     }
 }
 
+/// How long an entry took to be put into an index.
+fn time_of_puts(rt: &impl Clock, index: &mut Index, size: u64) -> io::Result<u64>
+    requires free { IsFreeFrom 0 index.old.now }
+    ensures free { OnOk result (IsFreeFrom size index.new.now) }
+    ensures open { index.new.is_open ≡ index.old.is_open }
+{
+    let start = Instant::now(rt)?;
+    index::fill(index, size).map_err(|_| no_memory())?;
+    tenths_since(rt, start, size)
+}
+
+/// How long an entry took to be renewed.
+fn time_of_renewals(rt: &impl Clock, index: &mut Index, size: u64) -> io::Result<u64>
+    requires { IsFreeFrom size index.old.now }
+    ensures free { OnOk result (IsFreeFrom size index.new.now) }
+    ensures open { index.new.is_open ≡ index.old.is_open }
+{
+    let start = Instant::now(rt)?;
+    index::renew(index, size, size).map_err(|_| no_memory())?;
+    tenths_since(rt, start, size)
+}
+
+/// How long a trial took.
+fn time_of_trials(rt: &impl Clock, index: &mut Index, size: u64) -> io::Result<u64>
+    requires free { IsFreeFrom size index.old.now }
+    requires open { index.old.is_open ≡ false }
+{
+    let start = Instant::now(rt)?;
+    index::try_out(index, size, size).map_err(|_| no_memory())?;
+    tenths_since(rt, start, size)
+}
+
 /// The times of an index, and what its buckets come to.
 fn with_index(rt: &impl Clock, alloc: Global, size: u64) -> io::Result<(Spent, u64)> {
     let mut index = Index::new(alloc);
-    let start = Instant::now(rt)?;
-    index::fill(&mut index, size).map_err(|_| no_memory())?;
-    let put = tenths_since(rt, start, size)?;
-    let start = Instant::now(rt)?;
-    index::renew(&mut index, size, size).map_err(|_| no_memory())?;
-    let renew = tenths_since(rt, start, size)?;
+    let put = time_of_puts(rt, &mut index, size)?;
+    let renew = time_of_renewals(rt, &mut index, size)?;
     let start = Instant::now(rt)?;
     let sum = read_buckets(&index, size, size);
     let look = tenths_since(rt, start, size)?;
-    let start = Instant::now(rt)?;
-    index::try_out(&mut index, size, size).map_err(|_| no_memory())?;
-    let trial = tenths_since(rt, start, size)?;
+    let trial = time_of_trials(rt, &mut index, size)?;
     let spent = Spent {
         put,
         renew,
@@ -53,21 +81,27 @@ fn with_index(rt: &impl Clock, alloc: Global, size: u64) -> io::Result<(Spent, u
     Ok((spent, sum))
 }
 
+/// How long so many moves with a plain map took.
+fn time_of(
+    rt: &impl Clock,
+    plain: &mut Plain,
+    size: u64,
+    moves: fn(&mut Plain, u64) -> Result<(), Memory>,
+) -> io::Result<u64> {
+    let start = Instant::now(rt)?;
+    moves(plain, size).map_err(|_| no_memory())?;
+    tenths_since(rt, start, size)
+}
+
 /// The times of a plain map, and what its lists come to.
 fn with_plain(rt: &impl Clock, alloc: Global, size: u64) -> io::Result<(Spent, u64)> {
     let mut plain = Plain::new(alloc);
-    let start = Instant::now(rt)?;
-    plain::fill(&mut plain, size).map_err(|_| no_memory())?;
-    let put = tenths_since(rt, start, size)?;
-    let start = Instant::now(rt)?;
-    plain::renew(&mut plain, size, size).map_err(|_| no_memory())?;
-    let renew = tenths_since(rt, start, size)?;
+    let put = time_of(rt, &mut plain, size, plain::fill)?;
+    let renew = time_of(rt, &mut plain, size, plain::renew)?;
     let start = Instant::now(rt)?;
     let sum = plain::read(&plain, size, size);
     let look = tenths_since(rt, start, size)?;
-    let start = Instant::now(rt)?;
-    plain::try_out(&mut plain, size, size).map_err(|_| no_memory())?;
-    let trial = tenths_since(rt, start, size)?;
+    let trial = time_of(rt, &mut plain, size, plain::try_out)?;
     let spent = Spent {
         put,
         renew,

@@ -81,6 +81,73 @@ pub fn read_buckets(index: &Index, size: u64, count: u64) -> u64 {
     sum
 }
 
+/// Fills an index, and says how long it took.
+fn drive_puts<R: Eprint + Clock>(
+    rt: &R,
+    times: bool,
+    index: &mut Index,
+    size: u64,
+) -> io::Result<()>
+    requires free { IsFreeFrom 0 index.old.now }
+    ensures free { OnOk result (IsFreeFrom size index.new.now) }
+    ensures open { index.new.is_open ≡ index.old.is_open }
+{
+    let start = Instant::now(rt)?;
+    fill(index, size).map_err(|_| no_memory())?;
+    report(rt, times, "index put", size, start)
+}
+
+/// Renews an entry as often as the index has some, and says how long it took.
+fn drive_renewals<R: Eprint + Clock>(
+    rt: &R,
+    times: bool,
+    what: &str,
+    index: &mut Index,
+    size: u64,
+) -> io::Result<()>
+    requires { IsFreeFrom size index.old.now }
+    ensures free { OnOk result (IsFreeFrom size index.new.now) }
+    ensures open { index.new.is_open ≡ index.old.is_open }
+{
+    let start = Instant::now(rt)?;
+    renew(index, size, size).map_err(|_| no_memory())?;
+    report(rt, times, what, size, start)
+}
+
+/// Looks as many keys up, says how long it took, and answers how many places that gave.
+fn drive_look_ups<R: Eprint + Clock>(
+    rt: &R,
+    alloc: Global,
+    times: bool,
+    what: &str,
+    index: &Index,
+    size: u64,
+) -> io::Result<u64> {
+    let mut into = List::new(alloc);
+    let start = Instant::now(rt)?;
+    let hits = look_up(index, &mut into, size, size).map_err(|_| no_memory())?;
+    report(rt, times, what, size, start)?;
+    Ok(hits)
+}
+
+/// Makes so many trials, and says how long they took.
+fn drive_trials<R: Eprint + Clock>(
+    rt: &R,
+    times: bool,
+    index: &mut Index,
+    size: u64,
+    rounds: u64,
+) -> io::Result<()>
+    requires free { IsFreeFrom size index.old.now }
+    requires open { index.old.is_open ≡ false }
+    ensures free { OnOk result (IsFreeFrom size index.new.now) }
+    ensures open { OnOk result (index.new.is_open ≡ false) }
+{
+    let start = Instant::now(rt)?;
+    try_out(index, size, rounds).map_err(|_| no_memory())?;
+    report(rt, times, "index trial of three, of many", rounds, start)
+}
+
 /// Drives an index at a size.
 pub fn drive<R: Print + Eprint + Clock>(
     rt: &R,
@@ -90,24 +157,24 @@ pub fn drive<R: Print + Eprint + Clock>(
     rounds: u64,
 ) -> io::Result<()> {
     let mut index = Index::new(alloc);
-    let mut into = List::new(alloc);
-    let start = Instant::now(rt)?;
-    fill(&mut index, size).map_err(|_| no_memory())?;
-    report(rt, times, "index put", size, start)?;
-    let start = Instant::now(rt)?;
-    renew(&mut index, size, size).map_err(|_| no_memory())?;
-    report(rt, times, "index put and kill", size, start)?;
-    let start = Instant::now(rt)?;
-    let hits = look_up(&index, &mut into, size, size).map_err(|_| no_memory())?;
-    report(rt, times, "index look-up of ten", size, start)?;
-    let start = Instant::now(rt)?;
-    try_out(&mut index, size, rounds).map_err(|_| no_memory())?;
-    report(rt, times, "index trial of three, of many", rounds, start)?;
-    let start = Instant::now(rt)?;
-    renew(&mut index, size, size).map_err(|_| no_memory())?;
-    report(rt, times, "index put and kill, after trials", size, start)?;
-    let start = Instant::now(rt)?;
-    let again = look_up(&index, &mut into, size, size).map_err(|_| no_memory())?;
-    report(rt, times, "index look-up, after trials", size, start)?;
+    drive_puts(rt, times, &mut index, size)?;
+    drive_renewals(rt, times, "index put and kill", &mut index, size)?;
+    let hits = drive_look_ups(rt, alloc, times, "index look-up of ten", &index, size)?;
+    drive_trials(rt, times, &mut index, size, rounds)?;
+    drive_renewals(
+        rt,
+        times,
+        "index put and kill, after trials",
+        &mut index,
+        size,
+    )?;
+    let again = drive_look_ups(
+        rt,
+        alloc,
+        times,
+        "index look-up, after trials",
+        &index,
+        size,
+    )?;
     rt.println(format_args!("index of {size}: look-ups give {hits}, and {again} after the trials"))
 }

@@ -57,8 +57,8 @@ pub fn fill(plain: &mut Plain, size: u64) -> Result<(), Memory> {
     Ok(())
 }
 
-pub fn renew(plain: &mut Plain, size: u64, count: u64) -> Result<(), Memory> {
-    for round in 0..count {
+pub fn renew(plain: &mut Plain, size: u64) -> Result<(), Memory> {
+    for round in 0..size {
         let key = key_of(round, size);
         plain.put(key, size)?;
         plain.kill(key, size);
@@ -67,8 +67,8 @@ pub fn renew(plain: &mut Plain, size: u64, count: u64) -> Result<(), Memory> {
 }
 
 /// The moves of a trial of three, and those that take them back.
-pub fn try_out(plain: &mut Plain, size: u64, count: u64) -> Result<(), Memory> {
-    for round in 0..count {
+pub fn try_out(plain: &mut Plain, size: u64) -> Result<(), Memory> {
+    for round in 0..size {
         let key = key_of(round, size);
         for _ in 0..3 {
             plain.put(key, size)?;

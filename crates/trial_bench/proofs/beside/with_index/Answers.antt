@@ -4,5 +4,5 @@ use Rattle.std.specs.FinMap.{get-empty}
 use Rattle.stream_index.specs.View.{IndexView}
 use Rattle.trial_bench.proofs.beside.with_index.Goals as goal
 
-pub fill-requires : goal.fill-requires
-fill-requires g c = record { free = λ q le. ap (λ (v : IndexView). map.get v.now q) c.new-index.ensures ∙ get-empty nat_cmp q }
+pub time_of_puts-requires : goal.time_of_puts-requires
+time_of_puts-requires g c = record { free = λ q le. ap (λ (v : IndexView). map.get v.now q) c.new-index.ensures ∙ get-empty nat_cmp q }

@@ -5,7 +5,6 @@ ghost use Rattle.trial_bench.specs.Free.{IsFreeFrom};
 use crate::clocked::{no_memory, tenths_since};
 use crate::index::{self, read_buckets};
 use crate::plain::{self, Plain};
-use plan_facts::Memory;
 use std::alloc::Global;
 use std::io;
 use std::rt::Clock;
@@ -81,27 +80,36 @@ fn with_index(rt: &impl Clock, alloc: Global, size: u64) -> io::Result<(Spent, u
     Ok((spent, sum))
 }
 
-/// How long so many moves with a plain map took.
-fn time_of(
-    rt: &impl Clock,
-    plain: &mut Plain,
-    size: u64,
-    moves: fn(&mut Plain, u64) -> Result<(), Memory>,
-) -> io::Result<u64> {
+/// How long an entry took to be put into a plain map.
+fn time_of_plain_puts(rt: &impl Clock, plain: &mut Plain, size: u64) -> io::Result<u64> {
     let start = Instant::now(rt)?;
-    moves(plain, size).map_err(|_| no_memory())?;
+    plain::fill(plain, size).map_err(|_| no_memory())?;
+    tenths_since(rt, start, size)
+}
+
+/// How long an entry of a plain map took to be renewed.
+fn time_of_plain_renewals(rt: &impl Clock, plain: &mut Plain, size: u64) -> io::Result<u64> {
+    let start = Instant::now(rt)?;
+    plain::renew(plain, size).map_err(|_| no_memory())?;
+    tenths_since(rt, start, size)
+}
+
+/// How long the moves of a trial took with a plain map.
+fn time_of_plain_trials(rt: &impl Clock, plain: &mut Plain, size: u64) -> io::Result<u64> {
+    let start = Instant::now(rt)?;
+    plain::try_out(plain, size).map_err(|_| no_memory())?;
     tenths_since(rt, start, size)
 }
 
 /// The times of a plain map, and what its lists come to.
 fn with_plain(rt: &impl Clock, alloc: Global, size: u64) -> io::Result<(Spent, u64)> {
     let mut plain = Plain::new(alloc);
-    let put = time_of(rt, &mut plain, size, plain::fill)?;
-    let renew = time_of(rt, &mut plain, size, plain::renew)?;
+    let put = time_of_plain_puts(rt, &mut plain, size)?;
+    let renew = time_of_plain_renewals(rt, &mut plain, size)?;
     let start = Instant::now(rt)?;
     let sum = plain::read(&plain, size, size);
     let look = tenths_since(rt, start, size)?;
-    let trial = time_of(rt, &mut plain, size, plain::try_out)?;
+    let trial = time_of_plain_trials(rt, &mut plain, size)?;
     let spent = Spent {
         put,
         renew,

@@ -78,6 +78,78 @@ fn thin_out(store: &mut Store<u64>, size: u64) -> u64
     walk(store, size)
 }
 
+/// Fills a store, and says how long it took.
+fn drive_adds<R: Eprint + Clock>(
+    rt: &R,
+    times: bool,
+    store: &mut Store<u64>,
+    size: u64,
+) -> io::Result<()>
+    ensures { store.new.is_open ≡ store.old.is_open }
+{
+    let start = Instant::now(rt)?;
+    fill(store, size).map_err(|_| no_memory())?;
+    report(rt, times, "store add", size, start)
+}
+
+/// Renews as many rows as a store has some, and says how long it took.
+fn drive_renewals<R: Eprint + Clock>(
+    rt: &R,
+    times: bool,
+    what: &str,
+    store: &mut Store<u64>,
+    size: u64,
+) -> io::Result<()>
+    ensures { store.new.is_open ≡ store.old.is_open }
+{
+    let start = Instant::now(rt)?;
+    renew(store, size).map_err(|_| no_memory())?;
+    report(rt, times, what, size, start)
+}
+
+/// Makes so many trials, and says how long they took.
+fn drive_trials<R: Eprint + Clock>(
+    rt: &R,
+    times: bool,
+    what: &str,
+    store: &mut Store<u64>,
+    size: u64,
+    rounds: u64,
+) -> io::Result<()>
+    requires { store.old.is_open ≡ false }
+    ensures { OnOk result (store.new.is_open ≡ false) }
+{
+    let start = Instant::now(rt)?;
+    try_out(store, size, rounds).map_err(|_| no_memory())?;
+    report(rt, times, what, rounds, start)
+}
+
+/// Walks through a store, says how long it took, and answers how many rows it met.
+fn drive_walk<R: Eprint + Clock>(
+    rt: &R,
+    times: bool,
+    store: &Store<u64>,
+    size: u64,
+) -> io::Result<u64> {
+    let start = Instant::now(rt)?;
+    let met = walk(store, size);
+    report(rt, times, "store next", size, start)?;
+    Ok(met)
+}
+
+/// Kills all rows but the last, says how long it took, and answers how many rows are met then.
+fn drive_kills<R: Eprint + Clock>(
+    rt: &R,
+    times: bool,
+    store: &mut Store<u64>,
+    size: u64,
+) -> io::Result<u64> {
+    let start = Instant::now(rt)?;
+    let left = thin_out(store, size);
+    report(rt, times, "store kills and a walk", size, start)?;
+    Ok(left)
+}
+
 /// Drives a store at a size.
 pub fn drive<R: Print + Eprint + Clock>(
     rt: &R,
@@ -87,26 +159,32 @@ pub fn drive<R: Print + Eprint + Clock>(
     rounds: u64,
 ) -> io::Result<()> {
     let mut store = Store::new(alloc);
-    let start = Instant::now(rt)?;
-    fill(&mut store, size).map_err(|_| no_memory())?;
-    report(rt, times, "store add", size, start)?;
-    let start = Instant::now(rt)?;
-    renew(&mut store, size).map_err(|_| no_memory())?;
-    report(rt, times, "store kill or add", size, start)?;
-    let start = Instant::now(rt)?;
-    try_out(&mut store, size, 1000).map_err(|_| no_memory())?;
-    report(rt, times, "store trial of four calls", 1000, start)?;
-    let start = Instant::now(rt)?;
-    try_out(&mut store, size, rounds).map_err(|_| no_memory())?;
-    report(rt, times, "store trial of four, of many", rounds, start)?;
-    let start = Instant::now(rt)?;
-    renew(&mut store, size).map_err(|_| no_memory())?;
-    report(rt, times, "store kill or add after the trials", size, start)?;
-    let start = Instant::now(rt)?;
-    let met = walk(&store, size);
-    report(rt, times, "store next", size, start)?;
-    let start = Instant::now(rt)?;
-    let left = thin_out(&mut store, size);
-    report(rt, times, "store kills and a walk", size, start)?;
+    drive_adds(rt, times, &mut store, size)?;
+    drive_renewals(rt, times, "store kill or add", &mut store, size)?;
+    drive_trials(
+        rt,
+        times,
+        "store trial of four calls",
+        &mut store,
+        size,
+        1000,
+    )?;
+    drive_trials(
+        rt,
+        times,
+        "store trial of four, of many",
+        &mut store,
+        size,
+        rounds,
+    )?;
+    drive_renewals(
+        rt,
+        times,
+        "store kill or add after the trials",
+        &mut store,
+        size,
+    )?;
+    let met = drive_walk(rt, times, &store, size)?;
+    let left = drive_kills(rt, times, &mut store, size)?;
     rt.println(format_args!("store of {size}: a walk meets {met}, and {left} where one is left"))
 }

@@ -4,4 +4,5 @@ mod limits;
 mod made;
 mod performed;
 mod refused;
+mod seen;
 mod undone;

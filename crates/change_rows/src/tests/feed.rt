@@ -5,8 +5,10 @@ ghost use Rattle.std.specs.Prelude.{◌≡◌, ◌≤◌, false};
 use crate::spot_words;
 use change_feed::{Feed, FeedFault, body_of};
 use plan_changes::{Body, Change, Deed, FieldItem, Item, LineFault, ValueItem};
+use plan_facts::Text;
 use plan_ports::MemSource;
 use std::alloc::{AllocError, Global};
+use std::fmt::Write;
 use std::process::Abort;
 use std::str;
 use std::test::Fail;
@@ -181,42 +183,51 @@ fn finds_the_first_fault_of_a_line(rt: HostRuntime) -> Result<(), Fail> {
     Ok(())
 }
 
+/// A text as it is printed.
+fn word(text: &Text) -> &str {
+    str::from_utf8(text.as_slice()).unwrap_or("?")
+}
+
 /// Adds a field's name and what it is given.
-fn add_field(alloc: Global, text: &mut String, field: &FieldItem) -> Result<(), Fail> {
-    let name = str::from_utf8(field.name.as_slice())?;
-    let words = match &field.item {
-        Item::Num(number) => format!(in alloc; " {name}={number}")?,
-        Item::Name(given) => format!(in alloc; " {name}={:?}", str::from_utf8(given.as_slice())?)?,
-    };
-    text.push_str(words.as_str())?;
+fn add_field(out: &mut String, field: &FieldItem) -> Result<(), AllocError> {
+    let name = word(&field.name);
+    match &field.item {
+        Item::Num(number) => write!(out, " {name}={number}"),
+        Item::Name(given) => write!(out, " {name}={:?}", word(given)),
+    }
+}
+
+/// Adds the fields of a change.
+fn add_fields(out: &mut String, fields: &[FieldItem]) -> Result<(), AllocError> {
+    for field in fields {
+        add_field(out, field)?;
+    }
     Ok(())
 }
 
 /// Adds a variable's name and what it is given.
-fn add_value(alloc: Global, text: &mut String, value: &ValueItem) -> Result<(), Fail> {
-    let name = str::from_utf8(value.name.as_slice())?;
-    let words = match value.value {
-        Some(id) => format!(in alloc; " {name}->{id}")?,
-        None => format!(in alloc; " {name}->-")?,
-    };
-    text.push_str(words.as_str())?;
+fn add_value(out: &mut String, value: &ValueItem) -> Result<(), AllocError> {
+    let name = word(&value.name);
+    match value.value {
+        Some(id) => write!(out, " {name}->{id}"),
+        None => write!(out, " {name}->-"),
+    }
+}
+
+/// Adds the variables of a change.
+fn add_values(out: &mut String, values: &[ValueItem]) -> Result<(), AllocError> {
+    for value in values {
+        add_value(out, value)?;
+    }
     Ok(())
 }
 
-/// A change in words: the class with the id, the fields, the variables, the rule with its weight.
-fn change_words(alloc: Global, change: &Change) -> Result<String, Fail> {
-    let class = str::from_utf8(change.class.as_slice())?;
-    let mut text = format!(in alloc; "{class}#{}", change.id)?;
-    for field in change.fields.as_slice() {
-        add_field(alloc, &mut text, field)?;
-    }
-    for value in change.values.as_slice() {
-        add_value(alloc, &mut text, value)?;
-    }
-    let rule = str::from_utf8(change.rule.as_slice())?;
-    let words = format!(in alloc; " {rule}:{}", change.weight)?;
-    text.push_str(words.as_str())?;
-    Ok(text)
+/// Adds a change in words: the class with the id, the fields, the variables, the rule with its weight.
+fn add_change(out: &mut String, change: &Change) -> Result<(), AllocError> {
+    write!(out, "{}#{}", word(&change.class), change.id)?;
+    add_fields(out, change.fields.as_slice())?;
+    add_values(out, change.values.as_slice())?;
+    write!(out, " {}:{}", word(&change.rule), change.weight)
 }
 
 /// Lines that are changes, and these in words.
@@ -240,14 +251,20 @@ const CHANGES: &[(&[u8], &str)] = &[
     ),
 ];
 
-/// Fails where the line isn't this change.
-fn try_change(rt: &impl Abort, alloc: Global, line: &[u8], want: &str) -> Result<(), Fail> {
-    let Body::Do(change) = body_of(alloc, line)? else {
-        return Err("no change".into());
-    };
-    let words = change_words(alloc, &change)?;
+/// Fails where these aren't the words of the change.
+fn expect_words(rt: &impl Abort, alloc: Global, change: &Change, want: &str) -> Result<(), Fail> {
+    let mut words = String::new(alloc);
+    add_change(&mut words, change)?;
     assert_eq!(rt; words.as_str(), want);
     Ok(())
+}
+
+/// Fails where the line isn't this change.
+fn try_change(rt: &impl Abort, alloc: Global, line: &[u8], want: &str) -> Result<(), Fail> {
+    match body_of(alloc, line)? {
+        Body::Do(change) => expect_words(rt, alloc, &change, want),
+        _ => Err("no change".into()),
+    }
 }
 
 #[test]
@@ -289,15 +306,29 @@ fn try_end(rt: &impl Abort, feed: &mut Feed, src: &mut MemSource, want: &str) {
     assert!(rt; feed.ended());
 }
 
+/// Fails where the next lines of the feed don't have these words.
+fn try_lines(rt: &impl Abort, feed: &mut Feed, src: &mut MemSource, want: &[&str]) {
+    for place in 0..want.len() {
+        if !feed.ended() {
+            try_next(rt, feed, src, place + 1, want[place]);
+        }
+    }
+}
+
 /// Fails where a feed of the source doesn't have lines of these words, and then this end.
 fn try_feed(rt: &impl Abort, alloc: Global, mut src: MemSource, want: &[&str], last: &str) {
     let mut feed = Feed::new(alloc);
-    for place in 0..want.len() {
+    try_lines(rt, &mut feed, &mut src, want);
+    try_end(rt, &mut feed, &mut src, last);
+}
+
+/// Fails where the next lines of the feed, so many, don't have these words.
+fn try_same_lines(rt: &impl Abort, feed: &mut Feed, src: &mut MemSource, count: usize, want: &str) {
+    for place in 0..count {
         if !feed.ended() {
-            try_next(rt, &mut feed, &mut src, place + 1, want[place]);
+            try_next(rt, feed, src, place + 1, want);
         }
     }
-    try_end(rt, &mut feed, &mut src, last);
 }
 
 /// Fails where a feed of the source doesn't have so many lines of these words, and then this end.
@@ -310,19 +341,8 @@ fn try_same(
     last: &str,
 ) {
     let mut feed = Feed::new(alloc);
-    for place in 0..count {
-        if !feed.ended() {
-            try_next(rt, &mut feed, &mut src, place + 1, want);
-        }
-    }
+    try_same_lines(rt, &mut feed, &mut src, count, want);
     try_end(rt, &mut feed, &mut src, last);
-}
-
-/// A source of these bytes that gives at most so many in a take, and fails at these takes.
-fn source(alloc: Global, bytes: Vec<u8>, most: usize, fail: &[u32]) -> Result<MemSource, AllocError>
-    requires { 1 ≤ most }
-{
-    Ok(MemSource::new(bytes, most, Vec::from_slice(alloc, fail)?))
 }
 
 /// A feed of six lines.
@@ -333,12 +353,38 @@ const SIX: &[u8] = br#"{"do":"add","class":"room","fields":{"capacity":5}}
 {"do":"alter","class":"room","id":2,"fields":{"size":1}}
 {"#;
 
+/// A source of the six lines that gives at most so many bytes in a take, and fails at these takes.
+fn source_of_six(alloc: Global, most: usize, fail: &[u32]) -> Result<MemSource, AllocError>
+    requires { 1 ≤ most }
+{
+    let fail = Vec::from_slice(alloc, fail)?;
+    let bytes = Vec::from_slice(alloc, SIX)?;
+    Ok(MemSource::new(bytes, most, fail))
+}
+
+/// Fails where a feed of the six lines that fails at these takes doesn't have lines of these words, and then this end.
+fn try_six(
+    rt: &impl Abort,
+    alloc: Global,
+    most: usize,
+    fail: &[u32],
+    want: &[&str],
+    last: &str,
+) -> Result<(), Fail>
+    requires { 1 ≤ most }
+{
+    let src = source_of_six(alloc, most, fail)?;
+    try_feed(rt, alloc, src, want, last);
+    Ok(())
+}
+
+/// What the six lines are read as.
+const SIX_WORDS: [&str; 6] = ["add", "add", "remove", "add", "alter", "syntax json"];
+
 #[test]
 fn gives_each_line_once_however_the_bytes_come(rt: HostRuntime) -> Result<(), Fail> {
-    let want = ["add", "add", "remove", "add", "alter", "syntax json"];
     for most in [1, 3, 50, 1_000] {
-        let src = source(rt.alloc(), Vec::from_slice(rt.alloc(), SIX)?, most, &[])?;
-        try_feed(&rt, rt.alloc(), src, &want, "end");
+        try_six(&rt, rt.alloc(), most, &[], &SIX_WORDS, "end")?;
     }
     Ok(())
 }
@@ -347,9 +393,37 @@ fn gives_each_line_once_however_the_bytes_come(rt: HostRuntime) -> Result<(), Fa
 #[test]
 fn ends_where_the_source_fails(rt: HostRuntime) -> Result<(), Fail> {
     for (take, lines) in [(0, 0), (17, 0), (18, 1), (34, 1), (35, 2)] {
-        let src = source(rt.alloc(), Vec::from_slice(rt.alloc(), SIX)?, 3, &[take])?;
-        try_feed(&rt, rt.alloc(), src, &["add", "add"][..lines], "read_fault");
+        try_six(
+            &rt,
+            rt.alloc(),
+            3,
+            &[take],
+            &["add", "add"][..lines],
+            "read_fault",
+        )?;
     }
+    Ok(())
+}
+
+/// Writes a line of so many bytes, and the six lines behind it.
+fn push_long(out: &mut Vec<u8>, count: usize) -> Result<(), AllocError> {
+    out.resize(count, b'x')?;
+    out.extend_from_slice(b"\n")?;
+    out.extend_from_slice(SIX)?;
+    Ok(())
+}
+
+/// A source of these bytes that gives at most 5,000 of them in a take.
+fn source(alloc: Global, bytes: Vec<u8>) -> MemSource {
+    MemSource::new(bytes, 5_000, Vec::new(alloc))
+}
+
+/// Fails where a line of so many bytes isn't read so, or the six lines behind it aren't read.
+fn try_long(rt: &impl Abort, alloc: Global, count: usize, words: &str) -> Result<(), Fail> {
+    let mut bytes = Vec::new(alloc);
+    push_long(&mut bytes, count)?;
+    let want = [words, "add", "add", "remove", "add", "alter", "syntax json"];
+    try_feed(rt, alloc, source(alloc, bytes), &want, "end");
     Ok(())
 }
 
@@ -360,28 +434,30 @@ fn refuses_a_long_line_and_goes_on_behind_it(rt: HostRuntime) -> Result<(), Fail
         (65_536, "syntax json"),
         (500_000, "long_line"),
     ] {
-        let mut bytes = vec![in rt.alloc(); b'x'; count]?;
-        bytes.extend_from_slice(b"\n")?;
-        bytes.extend_from_slice(SIX)?;
-        let src = source(rt.alloc(), bytes, 5_000, &[])?;
-        try_feed(
-            &rt,
-            rt.alloc(),
-            src,
-            &[words, "add", "add", "remove", "add", "alter", "syntax json"],
-            "end",
-        );
+        try_long(&rt, rt.alloc(), count, words)?;
     }
+    Ok(())
+}
+
+/// Writes 4,096 empty lines, and these bytes behind them.
+fn push_empty(out: &mut Vec<u8>, more: &[u8]) -> Result<(), AllocError> {
+    out.resize(4_096, b'\n')?;
+    out.extend_from_slice(more)?;
+    Ok(())
+}
+
+/// Fails where the feed of 4,096 empty lines and these bytes behind them doesn't give the lines, and then this end.
+fn try_empty(rt: &impl Abort, alloc: Global, more: &[u8], last: &str) -> Result<(), Fail> {
+    let mut bytes = Vec::new(alloc);
+    push_empty(&mut bytes, more)?;
+    try_same(rt, alloc, source(alloc, bytes), 4_096, "syntax json", last);
     Ok(())
 }
 
 #[test]
 fn takes_4096_empty_lines_and_no_more(rt: HostRuntime) -> Result<(), Fail> {
     for (more, last) in [(b"".as_slice(), "end"), (b"x", "overrun")] {
-        let mut bytes = vec![in rt.alloc(); b'\n'; 4_096]?;
-        bytes.extend_from_slice(more)?;
-        let src = source(rt.alloc(), bytes, 5_000, &[])?;
-        try_same(&rt, rt.alloc(), src, 4_096, "syntax json", last);
+        try_empty(&rt, rt.alloc(), more, last)?;
     }
     Ok(())
 }

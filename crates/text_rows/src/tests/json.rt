@@ -1,10 +1,13 @@
-ghost use Rattle.std.specs.Prelude.{◌≡◌, IfOk};
+//! Problems from their bytes.
 
-use super::fixtures::{line, rule_of};
+ghost use Rattle.std.specs.Prelude.{◌≡◌, IfOk, IsTrue};
+ghost use Rattle.plan_facts.specs.Schema.{is_name};
+
+use super::fixtures::{expect_line, rule_of};
 use crate::last_digit;
 use plan_facts::Kind::{Name, Number};
-use plan_facts::{Kind, List, Memory, Text, is_name};
-use plan_json::{Domain, read_problem};
+use plan_facts::{Kind, List, Memory, Schema, Text, is_name};
+use plan_json::{Domain, Problem, read_problem};
 use plan_rules::{Book, RuleDef, Rules};
 use plan_settings::Construction;
 use std::alloc::Global;
@@ -56,43 +59,54 @@ fn rules(alloc: Global) -> Result<List<RuleDef>, Memory> {
     Ok(rules)
 }
 
+/// The text of a name.
+fn name_of(alloc: Global, name: &[u8]) -> Result<Text, Fail>
+    ensures { IfOk result (λ name. IsTrue (is_name name)) }
+{
+    let name = Text::from_slice(alloc, name)?;
+    if is_name(name.as_slice()) {
+        Ok(name)
+    } else {
+        Err("no name".into())
+    }
+}
+
+/// The rules over a schema.
+fn rules_over(alloc: Global, schema: &Schema) -> Result<Rules<Silent>, Fail>
+    ensures { IfOk result (λ rules. rules.schema ≡ schema.now) }
+{
+    let rules = rules(alloc)?;
+    Ok(Rules::build(
+        alloc,
+        schema,
+        rules,
+        List::new(alloc),
+        List::new(alloc),
+        List::new(alloc),
+        List::new(alloc),
+    )?)
+}
+
 /// A domain of this name with these classes.
 fn domain(alloc: Global, name: &[u8], classes: &[ClassSketch]) -> Result<Domain<Silent>, Fail> {
-    let name = Text::from_slice(alloc, name)?;
-    if !is_name(name.as_slice()) {
-        return Err("no name".into());
-    }
+    let name = name_of(alloc, name)?;
     let schema = schema_of(alloc, classes)?;
-    let rules = Rules::build(
-        alloc,
-        &schema,
-        rules(alloc)?,
-        List::new(alloc),
-        List::new(alloc),
-        List::new(alloc),
-        List::new(alloc),
-    )?;
+    let rules = rules_over(alloc, &schema)?;
     Ok(Domain::new(name, schema, rules, Vec::new(alloc)))
+}
+
+/// Adds two domains, of which most problems name the second.
+fn push_domains(alloc: Global, domains: &mut Vec<Domain<Silent>>) -> Result<(), Fail> {
+    domains.push(domain(alloc, b"open", OPEN)?)?;
+    domains.push(domain(alloc, b"timetable", TIMETABLE)?)?;
+    Ok(())
 }
 
 /// Two domains, of which most problems name the second.
 fn domains(alloc: Global) -> Result<Vec<Domain<Silent>>, Fail> {
     let mut domains = Vec::new(alloc);
-    domains.push(domain(alloc, b"open", OPEN)?)?;
-    domains.push(domain(alloc, b"timetable", TIMETABLE)?)?;
+    push_domains(alloc, &mut domains)?;
     Ok(domains)
-}
-
-fn try_problem(
-    rt: &impl Abort,
-    alloc: Global,
-    domains: &[Domain<Silent>],
-    text: &[u8],
-    wanted: &[u8],
-) -> Result<(), Fail> {
-    let answer = read_problem(alloc, text, domains);
-    assert_eq!(rt; line(alloc, answer)?.as_slice(), wanted);
-    Ok(())
 }
 
 /// Problems, beside what is written of them.
@@ -166,13 +180,18 @@ const PROBLEMS: [(&[u8], &[u8]); 22] = [
     ),
 ];
 
+/// Fails where something else is written of a problem.
+fn expect_problems(rt: &impl Abort, alloc: Global, domains: &[Domain<Silent>]) -> Result<(), Fail> {
+    for (text, wanted) in &PROBLEMS {
+        expect_line(rt, alloc, read_problem(alloc, text, domains), wanted)?;
+    }
+    Ok(())
+}
+
 #[test]
 fn refuses_problems_by_the_first_fault(rt: HostRuntime) -> Result<(), Fail> {
     let domains = domains(rt.alloc())?;
-    for (text, wanted) in &PROBLEMS {
-        try_problem(&rt, rt.alloc(), &domains, text, wanted)?;
-    }
-    Ok(())
+    expect_problems(&rt, rt.alloc(), &domains)
 }
 
 /// Writes so many records, of ids from 101 on with three digits, which have one further member.
@@ -190,16 +209,16 @@ fn push_records(out: &mut Vec<u8>, count: u32, member: &[u8]) -> Result<(), Memo
     Ok(())
 }
 
-/// A problem of this domain with so many timeslots, so many rooms, and no lesson.
-fn wide_problem(alloc: Global, domain: &[u8], slots: u32, rooms: u32) -> Result<Vec<u8>, Memory> {
-    let mut out = Vec::from_slice(alloc, br#"{"format":1,"domain":""#)?;
+/// Writes a problem of this domain with so many timeslots, so many rooms, and no lesson.
+fn push_problem(out: &mut Vec<u8>, domain: &[u8], slots: u32, rooms: u32) -> Result<(), Memory> {
+    out.extend_from_slice(br#"{"format":1,"domain":""#)?;
     out.extend_from_slice(domain)?;
     out.extend_from_slice(br#"","facts":{"timeslot":["#)?;
-    push_records(&mut out, slots, br#","day":1}"#)?;
+    push_records(out, slots, br#","day":1}"#)?;
     out.extend_from_slice(br#"],"room":["#)?;
-    push_records(&mut out, rooms, br#","capacity":30}"#)?;
+    push_records(out, rooms, br#","capacity":30}"#)?;
     out.extend_from_slice(b"]}}")?;
-    Ok(out)
+    Ok(())
 }
 
 /// Domains, numbers of timeslots and of rooms, and what is written of such a problem.
@@ -222,14 +241,30 @@ const WIDE: [(&[u8], u32, u32, &[u8]); 6] = [
     (b"open", 700, 0, b""),
 ];
 
+/// Fails where something else is written of a problem with so many timeslots and so many rooms.
+fn try_wide(
+    rt: &impl Abort,
+    alloc: Global,
+    domains: &[Domain<Silent>],
+    (domain, slots, rooms, wanted): (&[u8], u32, u32, &[u8]),
+) -> Result<(), Fail> {
+    let mut text = Vec::new(alloc);
+    push_problem(&mut text, domain, slots, rooms)?;
+    expect_line(rt, alloc, read_problem(alloc, &text, domains), wanted)
+}
+
+/// Fails where something else is written of a problem with many combinations.
+fn expect_wide(rt: &impl Abort, alloc: Global, domains: &[Domain<Silent>]) -> Result<(), Fail> {
+    for row in WIDE {
+        try_wide(rt, alloc, domains, row)?;
+    }
+    Ok(())
+}
+
 #[test]
 fn accepts_as_many_combinations_as_the_limit(rt: HostRuntime) -> Result<(), Fail> {
     let domains = domains(rt.alloc())?;
-    for (domain, slots, rooms, wanted) in WIDE {
-        let text = wide_problem(rt.alloc(), domain, slots, rooms)?;
-        try_problem(&rt, rt.alloc(), &domains, &text, wanted)?;
-    }
-    Ok(())
+    expect_wide(&rt, rt.alloc(), &domains)
 }
 
 /// A problem that says all.
@@ -238,19 +273,36 @@ const TOLD: &[u8] = br#"{"facts":{"lesson":[{"id":4,"subject":"Physics","size":2
 "weights":{"any_lesson":5},"settings":{"construction":"first_fit_decreasing","seed":9,"steps":3},
 "domain":"timetable","format":2}"#;
 
-#[test]
-fn reads_a_problem(rt: HostRuntime) -> Result<(), Fail> {
-    let domains = domains(rt.alloc())?;
-    let read = read_problem(rt.alloc(), TOLD, &domains)?;
+/// Fails where the problem isn't read as it says.
+fn expect_told(rt: &impl Abort, read: &Problem) {
     assert_eq!(rt; read.domain, 1);
     assert_eq!(rt; (read.settings.seed, read.settings.steps), (9, 3));
     assert_eq!(rt; read.weights.as_slice(), [5].as_slice());
     assert_eq!(rt; (read.plan.made(), read.plan.unplaced()), (3, 3));
     assert_eq!(rt; read.settings.construction, Construction::Decreasing);
-    let lesson = read.plan.raw(LESSON, 1).ok_or("no such lesson")?;
+    assert_eq!(rt; read.names.find(b"Maths"), Some(1));
+}
+
+/// Fails where the problem's first lesson isn't read as it says.
+fn expect_lesson(rt: &impl Abort, read: &Problem) {
+    let Some(lesson) = read.plan.raw(LESSON, 1) else {
+        panic!(rt; "no such lesson");
+    };
     assert_eq!(rt; lesson.fields.as_slice(), [1, -3].as_slice());
     assert_eq!(rt; lesson.values.as_slice(), [None, Some(7)].as_slice());
     assert!(rt; lesson.pinned);
-    assert_eq!(rt; read.names.find(b"Maths"), Some(1));
+}
+
+/// Fails where the problem that says all isn't read as it says.
+fn try_told(rt: &impl Abort, alloc: Global, domains: &[Domain<Silent>]) -> Result<(), Fail> {
+    let read = read_problem(alloc, TOLD, domains)?;
+    expect_told(rt, &read);
+    expect_lesson(rt, &read);
     Ok(())
+}
+
+#[test]
+fn reads_a_problem(rt: HostRuntime) -> Result<(), Fail> {
+    let domains = domains(rt.alloc())?;
+    try_told(&rt, rt.alloc(), &domains)
 }

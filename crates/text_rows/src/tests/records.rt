@@ -1,14 +1,14 @@
 //! The records of problems, and what the first bad one is refused for.
 
+use super::fixtures::word;
 use crate::last_digit;
 use json_values::read_value;
 use plan_facts::Kind::{Name, Number};
-use plan_facts::{Kind, Memory, Schema, Text};
+use plan_facts::{Kind, Memory, Plan, Schema};
 use problem_faults::ProblemFault;
-use problem_records::read_records;
-use std::alloc::Global;
+use problem_records::{Records, read_records};
+use std::alloc::{AllocError, Global};
 use std::process::Abort;
-use std::str;
 use std::test::Fail;
 use test_plans::VarSketch::Var;
 use test_plans::{ClassSketch, schema_of};
@@ -44,33 +44,31 @@ const LESSON_FIELDS: &[(&str, Kind)] = &[
     ("size", Number),
 ];
 
-fn text_of(text: &Text) -> Result<&str, Fail> {
-    Ok(str::from_utf8(text.as_slice())?)
-}
-
 /// The refusal, in words.
-fn told(alloc: Global, fault: &ProblemFault) -> Result<String, Fail> {
+fn told(alloc: Global, fault: &ProblemFault) -> Result<String, AllocError> {
     match fault {
-        ProblemFault::Shape { path } => Ok(format!(in alloc; "shape {}", text_of(path)?)?),
-        ProblemFault::TooManyFacts => Ok(String::from_str(alloc, "too_many_facts")?),
+        ProblemFault::Shape { path } => format!(in alloc; "shape {}", word(path)),
+        ProblemFault::TooManyFacts => String::from_str(alloc, "too_many_facts"),
         ProblemFault::DoubleId { class, id } => {
-            Ok(format!(in alloc; "double_id {}#{id}", text_of(class)?)?)
+            format!(in alloc; "double_id {}#{id}", word(class))
         }
         ProblemFault::BadField { class, id, field } => {
-            Ok(format!(in alloc; "bad_field {}#{id} {}", text_of(class)?, text_of(field)?)?)
+            format!(in alloc; "bad_field {}#{id} {}", word(class), word(field))
         }
         ProblemFault::BadValue { class, id, var } => {
-            Ok(format!(in alloc; "bad_value {}#{id} {}", text_of(class)?, text_of(var)?)?)
+            format!(in alloc; "bad_value {}#{id} {}", word(class), word(var))
         }
-        _ => Ok(String::from_str(alloc, "another")?),
+        _ => String::from_str(alloc, "another"),
     }
 }
 
-/// What these facts are refused for, in words; `read` where they are read.
-fn answer_to(alloc: Global, schema: &Schema, facts: &[u8]) -> Result<String, Fail> {
-    let facts = read_value(alloc, facts)?;
-    match read_records(alloc, schema, &facts) {
-        Ok(_) => Ok(String::from_str(alloc, "read")?),
+/// What facts are refused for, in words; `read` where they are read.
+fn answer_words(
+    alloc: Global,
+    answer: Result<Records, ProblemFault>,
+) -> Result<String, AllocError> {
+    match answer {
+        Ok(_) => String::from_str(alloc, "read"),
         Err(fault) => told(alloc, &fault),
     }
 }
@@ -194,6 +192,18 @@ const LESSONS: &[(&[(&[u8], &[u8])], &str)] = &[
 ];
 
 /// Fails where these facts aren't answered so.
+fn expect_answer(
+    rt: &impl Abort,
+    alloc: Global,
+    answer: Result<Records, ProblemFault>,
+    want: &str,
+) -> Result<(), Fail> {
+    let words = answer_words(alloc, answer)?;
+    assert_eq!(rt; words.as_str(), want);
+    Ok(())
+}
+
+/// Fails where the facts of these bytes aren't answered so.
 fn try_facts(
     rt: &impl Abort,
     alloc: Global,
@@ -201,70 +211,120 @@ fn try_facts(
     facts: &[u8],
     want: &str,
 ) -> Result<(), Fail> {
-    let answer = answer_to(alloc, schema, facts)?;
-    assert_eq!(rt; answer.as_str(), want);
+    let facts = read_value(alloc, facts)?;
+    expect_answer(rt, alloc, read_records(alloc, schema, &facts), want)
+}
+
+/// Fails where facts aren't answered as the table says.
+fn expect_facts(rt: &impl Abort, alloc: Global, schema: &Schema) -> Result<(), Fail> {
+    for (facts, want) in FACTS {
+        try_facts(rt, alloc, schema, facts, want)?;
+    }
     Ok(())
 }
 
 #[test]
 fn refuses_the_first_bad_thing(rt: HostRuntime) -> Result<(), Fail> {
     let schema = schema_of(rt.alloc(), TIMETABLE)?;
-    for (facts, want) in FACTS {
-        try_facts(&rt, rt.alloc(), &schema, facts, want)?;
-    }
+    expect_facts(&rt, rt.alloc(), &schema)
+}
+
+/// Writes a lesson behind a comma, if there is one.
+fn push_lesson(out: &mut Vec<u8>, comma: &[u8], subject: &[u8], more: &[u8]) -> Result<(), Memory> {
+    out.extend_from_slice(comma)?;
+    out.extend_from_slice(br#"{"subject":""#)?;
+    out.extend_from_slice(subject)?;
+    out.push(b'"')?;
+    out.extend_from_slice(LESSON_MEMBERS)?;
+    out.extend_from_slice(more)?;
+    out.push(b'}')?;
     Ok(())
 }
 
-/// Facts with a slot, a room, and these lessons.
-fn with_lessons(alloc: Global, lessons: &[(&[u8], &[u8])]) -> Result<Vec<u8>, Memory> {
-    let mut facts = Vec::from_slice(alloc, FRONT)?;
+/// Writes facts with a slot, a room, and these lessons.
+fn push_lessons(out: &mut Vec<u8>, lessons: &[(&[u8], &[u8])]) -> Result<(), Memory> {
+    out.extend_from_slice(FRONT)?;
     let mut comma: &[u8] = b"";
     for (subject, more) in lessons {
-        facts.extend_from_slice(comma)?;
-        facts.extend_from_slice(br#"{"subject":""#)?;
-        facts.extend_from_slice(subject)?;
-        facts.push(b'"')?;
-        facts.extend_from_slice(LESSON_MEMBERS)?;
-        facts.extend_from_slice(more)?;
-        facts.push(b'}')?;
+        push_lesson(out, comma, subject, more)?;
         comma = b",";
     }
-    facts.extend_from_slice(b"]}")?;
-    Ok(facts)
+    out.extend_from_slice(b"]}")?;
+    Ok(())
+}
+
+/// Fails where facts with these lessons aren't answered so.
+fn try_lessons(
+    rt: &impl Abort,
+    alloc: Global,
+    schema: &Schema,
+    lessons: &[(&[u8], &[u8])],
+    want: &str,
+) -> Result<(), Fail> {
+    let mut facts = Vec::new(alloc);
+    push_lessons(&mut facts, lessons)?;
+    try_facts(rt, alloc, schema, &facts, want)
+}
+
+/// Fails where lessons aren't answered as the table says.
+fn expect_lessons(rt: &impl Abort, alloc: Global, schema: &Schema) -> Result<(), Fail> {
+    for (lessons, want) in LESSONS {
+        try_lessons(rt, alloc, schema, lessons, want)?;
+    }
+    Ok(())
 }
 
 #[test]
 fn refuses_the_first_bad_lesson(rt: HostRuntime) -> Result<(), Fail> {
     let schema = schema_of(rt.alloc(), TIMETABLE)?;
-    for (lessons, want) in LESSONS {
-        let facts = with_lessons(rt.alloc(), lessons)?;
-        try_facts(&rt, rt.alloc(), &schema, &facts, want)?;
+    expect_lessons(&rt, rt.alloc(), &schema)
+}
+
+/// Writes a room behind a comma, its id with seven digits.
+fn push_room(out: &mut Vec<u8>, id: u32) -> Result<(), Memory> {
+    out.extend_from_slice(br#",{"id":1"#)?;
+    for place in [100_000, 10_000, 1_000, 100, 10, 1] {
+        out.push(last_digit(id / place))?;
     }
+    out.extend_from_slice(br#","capacity":1}"#)?;
     Ok(())
 }
 
-/// Facts with so many rooms and nothing else, of ids of seven digits.
-fn with_rooms(alloc: Global, count: u32) -> Result<Vec<u8>, Memory> {
-    let mut facts = Vec::from_slice(alloc, br#"{"room":[{"id":1,"capacity":1}"#)?;
+/// Writes facts with so many rooms and nothing else, of ids of seven digits but for the first one.
+fn push_rooms(out: &mut Vec<u8>, count: u32) -> Result<(), Memory> {
+    out.extend_from_slice(br#"{"room":[{"id":1,"capacity":1}"#)?;
     for id in 1..count {
-        facts.extend_from_slice(br#",{"id":1"#)?;
-        for place in [100_000, 10_000, 1_000, 100, 10, 1] {
-            facts.push(last_digit(id / place))?;
-        }
-        facts.extend_from_slice(br#","capacity":1}"#)?;
+        push_room(out, id)?;
     }
-    facts.extend_from_slice(b"]}")?;
-    Ok(facts)
+    out.extend_from_slice(b"]}")?;
+    Ok(())
+}
+
+/// Fails where facts with so many rooms aren't answered so.
+fn try_rooms(
+    rt: &impl Abort,
+    alloc: Global,
+    schema: &Schema,
+    count: u32,
+    want: &str,
+) -> Result<(), Fail> {
+    let mut facts = Vec::new(alloc);
+    push_rooms(&mut facts, count)?;
+    try_facts(rt, alloc, schema, &facts, want)
+}
+
+/// Fails where facts at the limit aren't answered as they should be.
+fn expect_rooms(rt: &impl Abort, alloc: Global, schema: &Schema) -> Result<(), Fail> {
+    for (count, want) in [(100_000, "read"), (100_001, "too_many_facts")] {
+        try_rooms(rt, alloc, schema, count, want)?;
+    }
+    Ok(())
 }
 
 #[test]
 fn reads_as_many_records_as_a_plan_may_have(rt: HostRuntime) -> Result<(), Fail> {
     let schema = schema_of(rt.alloc(), TIMETABLE)?;
-    for (count, want) in [(100_000, "read"), (100_001, "too_many_facts")] {
-        let facts = with_rooms(rt.alloc(), count)?;
-        try_facts(&rt, rt.alloc(), &schema, &facts, want)?;
-    }
-    Ok(())
+    expect_rooms(&rt, rt.alloc(), &schema)
 }
 
 /// Facts whose names stand in no order of their own.
@@ -273,28 +333,51 @@ const NAMED: &[u8] =
 {"id":8,"subject":"maths","teacher":"ann","group":"one","size":20,"room":9,"pinned":true},
 {"id":4,"subject":"maths","teacher":"bob","group":"ann","size":-1}]}"#;
 
-/// Their records: class, id, fields, values, and whether the record is pinned.
-const RECORDS: [(u8, u32, &[i64], &[Option<u32>], bool); 4] = [
-    (ROOM, 9, &[5], &[], false),
-    (LESSON, 8, &[0, 1, 2, 20], &[None, Some(9)], true),
-    (LESSON, 4, &[0, 3, 1, -1], &[None, None], false),
-    (BLOCK, 3, &[3, 2], &[], false),
+/// A record: class, id, fields, values, and whether it is pinned.
+#[derive(Clone, Copy)]
+struct Wanted(u8, u32, &'static [i64], &'static [Option<u32>], bool);
+
+/// The records of these facts.
+const RECORDS: [Wanted; 4] = [
+    Wanted(ROOM, 9, &[5], &[], false),
+    Wanted(LESSON, 8, &[0, 1, 2, 20], &[None, Some(9)], true),
+    Wanted(LESSON, 4, &[0, 3, 1, -1], &[None, None], false),
+    Wanted(BLOCK, 3, &[3, 2], &[], false),
 ];
+
+/// Fails where the plan doesn't have the record.
+fn expect_record(rt: &impl Abort, plan: &Plan, wanted: Wanted) {
+    let Some(raw) = plan.raw(wanted.0, wanted.1) else {
+        panic!(rt; "no such record");
+    };
+    assert_eq!(rt; raw.fields.as_slice(), wanted.2);
+    assert_eq!(rt; raw.values.as_slice(), wanted.3);
+    assert_eq!(rt; raw.pinned, wanted.4);
+}
+
+/// Fails where these aren't the records and the names of the facts.
+fn expect_named(rt: &impl Abort, read: &Records) {
+    for wanted in RECORDS {
+        expect_record(rt, &read.plan, wanted);
+    }
+    assert_eq!(rt; (read.plan.made(), read.names.count()), (4, 4));
+    assert_eq!(rt; read.names.find(b"bob"), Some(3));
+}
+
+/// Fails where the facts aren't read as they should be.
+fn try_named(rt: &impl Abort, alloc: Global, schema: &Schema) -> Result<(), Fail> {
+    let facts = read_value(alloc, NAMED)?;
+    match read_records(alloc, schema, &facts) {
+        Ok(read) => {
+            expect_named(rt, &read);
+            Ok(())
+        }
+        Err(_) => Err("refused".into()),
+    }
+}
 
 #[test]
 fn numbers_names_in_the_order_of_the_facts(rt: HostRuntime) -> Result<(), Fail> {
     let schema = schema_of(rt.alloc(), TIMETABLE)?;
-    let facts = read_value(rt.alloc(), NAMED)?;
-    let Ok(read) = read_records(rt.alloc(), &schema, &facts) else {
-        return Err("refused".into());
-    };
-    for (class, id, fields, values, pinned) in RECORDS {
-        let raw = read.plan.raw(class, id).ok_or("no such record")?;
-        assert_eq!(rt; raw.fields.as_slice(), fields);
-        assert_eq!(rt; raw.values.as_slice(), values);
-        assert_eq!(rt; raw.pinned, pinned);
-    }
-    assert_eq!(rt; (read.plan.made(), read.names.count()), (4, 4));
-    assert_eq!(rt; read.names.find(b"bob"), Some(3));
-    Ok(())
+    try_named(&rt, rt.alloc(), &schema)
 }

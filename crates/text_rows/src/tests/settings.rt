@@ -1,11 +1,12 @@
 //! Roots, settings and weights of problems, and what the first bad one is refused for.
 
-use super::fixtures::{line, rule_of};
+use super::fixtures::{expect_line, rule_of};
 use json_values::read_value;
-use plan_facts::{List, Memory};
+use plan_facts::Memory;
 use plan_rules::RuleDef;
 use plan_settings::{AcceptorKind, Construction, Early, Selector, Settings};
 use problem_settings::{Format, check_root, read_settings, read_weights};
+use serde_json::Value;
 use std::alloc::Global;
 use std::process::Abort;
 use std::test::Fail;
@@ -157,10 +158,10 @@ const NEW_SETTINGS: [(&[u8], &[u8]); 6] = [
     ),
 ];
 
+/// Fails where something else is written of the root.
 fn try_root(rt: &impl Abort, alloc: Global, text: &[u8], wanted: &[u8]) -> Result<(), Fail> {
     let root = read_value(alloc, text)?;
-    assert_eq!(rt; line(alloc, check_root(alloc, &root))?.as_slice(), wanted);
-    Ok(())
+    expect_line(rt, alloc, check_root(alloc, &root), wanted)
 }
 
 #[test]
@@ -171,6 +172,7 @@ fn refuses_roots_by_the_first_wrong_member(rt: HostRuntime) -> Result<(), Fail> 
     Ok(())
 }
 
+/// Fails where something else is written of the settings.
 fn try_settings(
     rt: &impl Abort,
     alloc: Global,
@@ -179,27 +181,50 @@ fn try_settings(
     wanted: &[u8],
 ) -> Result<(), Fail> {
     let value = read_value(alloc, text)?;
-    let answer = read_settings(alloc, format, Some(&value));
-    assert_eq!(rt; line(alloc, answer)?.as_slice(), wanted);
+    expect_line(
+        rt,
+        alloc,
+        read_settings(alloc, format, Some(&value)),
+        wanted,
+    )
+}
+
+/// Fails where something else is written of one of these settings.
+fn try_all_settings(
+    rt: &impl Abort,
+    alloc: Global,
+    format: Format,
+    rows: &[(&[u8], &[u8])],
+) -> Result<(), Fail> {
+    for (text, wanted) in rows {
+        try_settings(rt, alloc, format, text, wanted)?;
+    }
     Ok(())
 }
 
 #[test]
 fn refuses_settings_in_their_order(rt: HostRuntime) -> Result<(), Fail> {
-    for (text, wanted) in &SETTINGS {
-        try_settings(&rt, rt.alloc(), Format::One, text, wanted)?;
-    }
-    for (text, wanted) in &NEW_SETTINGS {
-        try_settings(&rt, rt.alloc(), Format::Two, text, wanted)?;
-    }
+    try_all_settings(&rt, rt.alloc(), Format::One, &SETTINGS)?;
+    try_all_settings(&rt, rt.alloc(), Format::Two, &NEW_SETTINGS)
+}
+
+/// Fails where the root isn't of the format.
+fn expect_format(rt: &impl Abort, alloc: Global, root: &Value, wanted: Format) -> Result<(), Fail> {
+    let format = check_root(alloc, root)?;
+    assert_eq!(rt; format, wanted);
     Ok(())
+}
+
+/// Fails where the root isn't of the format.
+fn try_format(rt: &impl Abort, alloc: Global, text: &[u8], wanted: Format) -> Result<(), Fail> {
+    let root = read_value(alloc, text)?;
+    expect_format(rt, alloc, &root, wanted)
 }
 
 #[test]
 fn roots_name_their_format(rt: HostRuntime) -> Result<(), Fail> {
     for (text, format) in [(ROOTS[0].0, Format::One), (ROOTS[1].0, Format::Two)] {
-        let root = read_value(rt.alloc(), text)?;
-        assert_eq!(rt; check_root(rt.alloc(), &root)?, format);
+        try_format(&rt, rt.alloc(), text, format)?;
     }
     Ok(())
 }
@@ -223,50 +248,72 @@ fn numbers(read: &Settings) -> [u64; 7] {
     ]
 }
 
+/// What settings say: their numbers, which candidate is picked early, the acceptor, the selectors and the construction.
+struct Wanted {
+    numbers: [u64; 7],
+    pick_early: Early,
+    acceptor: AcceptorKind,
+    selectors: &'static [Selector],
+    construction: Construction,
+}
+
+/// The usual values.
+const USUAL: Wanted = Wanted {
+    numbers: [0, 1_000, 1_000, 1, 400, 7, 400],
+    pick_early: Early::Never,
+    acceptor: AcceptorKind::Late,
+    selectors: &[Selector::Change, Selector::Swap],
+    construction: Construction::FirstFit,
+};
+
+/// What the settings say that say all.
+const WANTED: Wanted = Wanted {
+    numbers: [u64::MAX, 0, 2, 3, 4, 5, 10_000],
+    pick_early: Early::Last,
+    acceptor: AcceptorKind::StepCount,
+    selectors: &[
+        Selector::PillarSwap,
+        Selector::Own,
+        Selector::PillarChange,
+        Selector::Own,
+    ],
+    construction: Construction::Decreasing,
+};
+
+/// Fails where the settings don't have what is wanted.
+fn expect_settings(rt: &impl Abort, read: &Settings, wanted: &Wanted) {
+    assert_eq!(rt; numbers(read), wanted.numbers);
+    assert_eq!(rt; read.pick_early, wanted.pick_early);
+    assert_eq!(rt; read.acceptor, wanted.acceptor);
+    assert_eq!(rt; read.selectors.as_slice(), wanted.selectors);
+    assert_eq!(rt; read.construction, wanted.construction);
+}
+
 #[test]
 fn settings_have_usual_values(rt: HostRuntime) -> Result<(), Fail> {
     let usual = read_settings(rt.alloc(), Format::One, None)?;
-    assert_eq!(rt; numbers(&usual), [0, 1_000, 1_000, 1, 400, 7, 400]);
-    assert_eq!(rt;
-        (usual.pick_early, usual.acceptor),
-        (Early::Never, AcceptorKind::Late)
-    );
-    assert_eq!(rt;
-        usual.selectors.as_slice(),
-        [Selector::Change, Selector::Swap].as_slice()
-    );
-    assert_eq!(rt; usual.construction, Construction::FirstFit);
+    expect_settings(&rt, &usual, &USUAL);
     Ok(())
 }
 
-/// The selectors that the settings name that say all.
-const NAMED: [Selector; 4] = [
-    Selector::PillarSwap,
-    Selector::Own,
-    Selector::PillarChange,
-    Selector::Own,
-];
+/// Fails where the settings of format 2 that say all aren't read as they say.
+fn expect_told(rt: &impl Abort, alloc: Global, told: &Value) -> Result<(), Fail> {
+    let read = read_settings(alloc, Format::Two, Some(told))?;
+    expect_settings(rt, &read, &WANTED);
+    Ok(())
+}
 
 #[test]
 fn reads_settings(rt: HostRuntime) -> Result<(), Fail> {
-    let value = read_value(rt.alloc(), TOLD)?;
-    let read = read_settings(rt.alloc(), Format::Two, Some(&value))?;
-    assert_eq!(rt; numbers(&read), [u64::MAX, 0, 2, 3, 4, 5, 10_000]);
-    assert_eq!(rt;
-        (read.pick_early, read.acceptor),
-        (Early::Last, AcceptorKind::StepCount)
-    );
-    assert_eq!(rt; read.selectors.as_slice(), NAMED.as_slice());
-    assert_eq!(rt; read.construction, Construction::Decreasing);
-    Ok(())
+    let told = read_value(rt.alloc(), TOLD)?;
+    expect_told(&rt, rt.alloc(), &told)
 }
 
 /// Two rules, of weight 1 and 7.
-fn rules(alloc: Global) -> Result<List<RuleDef>, Memory> {
-    let mut rules = List::new(alloc);
-    rules.push(rule_of(alloc, b"room_conflict", 1, 0)?)?;
-    rules.push(rule_of(alloc, b"room_size", 7, 0)?)?;
-    Ok(rules)
+fn rules(alloc: Global) -> Result<[RuleDef; 2], Memory> {
+    let conflict = rule_of(alloc, b"room_conflict", 1, 0)?;
+    let size = rule_of(alloc, b"room_size", 7, 0)?;
+    Ok([conflict, size])
 }
 
 /// Weights that are refused, beside what is written of them.
@@ -301,34 +348,67 @@ const WEIGHTS: [(&[u8], [u32; 2]); 3] = [
     ),
 ];
 
-fn try_bad_weights(rt: &impl Abort, alloc: Global, text: &[u8], wanted: &[u8]) -> Result<(), Fail> {
+/// Fails where something else is written of the weights.
+fn try_bad_weights(
+    rt: &impl Abort,
+    alloc: Global,
+    rules: &[RuleDef],
+    text: &[u8],
+    wanted: &[u8],
+) -> Result<(), Fail> {
     let value = read_value(alloc, text)?;
-    let answer = read_weights(alloc, rules(alloc)?.as_slice(), Some(&value));
-    assert_eq!(rt; line(alloc, answer)?.as_slice(), wanted);
+    expect_line(rt, alloc, read_weights(alloc, rules, Some(&value)), wanted)
+}
+
+/// Fails where something else is written of weights that are refused.
+fn expect_refused(rt: &impl Abort, alloc: Global, rules: &[RuleDef]) -> Result<(), Fail> {
+    for (text, wanted) in &BAD_WEIGHTS {
+        try_bad_weights(rt, alloc, rules, text, wanted)?;
+    }
     Ok(())
 }
 
 #[test]
 fn refuses_weights_in_rule_order(rt: HostRuntime) -> Result<(), Fail> {
-    for (text, wanted) in &BAD_WEIGHTS {
-        try_bad_weights(&rt, rt.alloc(), text, wanted)?;
-    }
-    Ok(())
+    let rules = rules(rt.alloc())?;
+    expect_refused(&rt, rt.alloc(), &rules)
 }
 
-fn try_weights(rt: &impl Abort, alloc: Global, text: &[u8], wanted: &[u32]) -> Result<(), Fail> {
-    let value = read_value(alloc, text)?;
-    let read = read_weights(alloc, rules(alloc)?.as_slice(), Some(&value))?;
+/// Fails where the rules don't get these weights.
+fn expect_weights(
+    rt: &impl Abort,
+    alloc: Global,
+    rules: &[RuleDef],
+    value: Option<&Value>,
+    wanted: &[u32],
+) -> Result<(), Fail> {
+    let read = read_weights(alloc, rules, value)?;
     assert_eq!(rt; read.as_slice(), wanted);
     Ok(())
 }
 
+/// Fails where the rules don't get these weights.
+fn try_weights(
+    rt: &impl Abort,
+    alloc: Global,
+    rules: &[RuleDef],
+    text: &[u8],
+    wanted: &[u32],
+) -> Result<(), Fail> {
+    let value = read_value(alloc, text)?;
+    expect_weights(rt, alloc, rules, Some(&value), wanted)
+}
+
+/// Fails where the rules don't get the weights that the table says, or else their own ones.
+fn expect_read(rt: &impl Abort, alloc: Global, rules: &[RuleDef]) -> Result<(), Fail> {
+    for (text, wanted) in &WEIGHTS {
+        try_weights(rt, alloc, rules, text, wanted)?;
+    }
+    expect_weights(rt, alloc, rules, None, &[1, 7])
+}
+
 #[test]
 fn reads_weights_in_rule_order(rt: HostRuntime) -> Result<(), Fail> {
-    for (text, wanted) in &WEIGHTS {
-        try_weights(&rt, rt.alloc(), text, wanted)?;
-    }
-    let own = read_weights(rt.alloc(), rules(rt.alloc())?.as_slice(), None)?;
-    assert_eq!(rt; own.as_slice(), [1, 7].as_slice());
-    Ok(())
+    let rules = rules(rt.alloc())?;
+    expect_read(&rt, rt.alloc(), &rules)
 }

@@ -1,8 +1,10 @@
 //! Words of command lines, and the commands that they are.
 
+use super::fixtures::word;
 use plan_facts::{Memory, Text};
 use plan_words::{Command, WordFault, read_words};
 use std::alloc::{AllocError, Global};
+use std::process::Abort;
 use std::test::Fail;
 
 /// A case a line: words, and the command that they are, as `shown` shows it. An empty word is `""`.
@@ -92,10 +94,6 @@ fn texts(alloc: Global, line: &str) -> Result<Vec<Text>, Memory> {
     Ok(texts)
 }
 
-fn word(text: &Text) -> &str {
-    std::str::from_utf8(text.as_slice()).unwrap_or("?")
-}
-
 /// The command as a line, with `-` for a feed that isn't there.
 fn shown(alloc: Global, command: &Command) -> Result<String, AllocError> {
     match command {
@@ -131,21 +129,41 @@ fn shown(alloc: Global, command: &Command) -> Result<String, AllocError> {
     }
 }
 
+/// What the words are, as a line: a command, or what they are refused for.
+fn answer(alloc: Global, words: &[Text]) -> Result<String, AllocError> {
+    match read_words(alloc, words) {
+        Ok(command) => shown(alloc, &command),
+        Err(WordFault::Usage) => String::from_str(alloc, "usage"),
+        Err(WordFault::Memory) => String::from_str(alloc, "memory"),
+    }
+}
+
+/// Fails where the words of the case aren't what is wanted.
+fn expect_answer(
+    rt: &impl Abort,
+    alloc: Global,
+    words: &[Text],
+    wanted: &str,
+    case: &str,
+) -> Result<(), Fail> {
+    let answer = answer(alloc, words)?;
+    assert_eq!(rt; answer.as_str(), wanted, "{case}");
+    Ok(())
+}
+
+/// Fails where the words of the case aren't what it says behind its arrow.
+fn try_case(rt: &impl Abort, alloc: Global, case: &str) -> Result<(), Fail> {
+    let Some((words, wanted)) = case.split_once("=> ") else {
+        return Err("a case without a command".into());
+    };
+    let words = texts(alloc, words)?;
+    expect_answer(rt, alloc, &words, wanted, case)
+}
+
 #[test]
 fn words_are_the_commands_that_they_should_be(rt: HostRuntime) -> Result<(), Fail> {
-    for line in CASES.lines() {
-        let (words, wanted) = line.split_once("=> ").ok_or("a case without a command")?;
-        let words = texts(rt.alloc(), words)?;
-        match read_words(rt.alloc(), &words) {
-            Ok(command) => {
-                let shown = shown(rt.alloc(), &command)?;
-                assert_eq!(rt; shown.as_str(), wanted, "{line}");
-            }
-            Err(fault) => {
-                assert_eq!(rt; fault, WordFault::Usage, "{line}");
-                assert_eq!(rt; "usage", wanted, "{line}");
-            }
-        }
+    for case in CASES.lines() {
+        try_case(&rt, rt.alloc(), case)?;
     }
     Ok(())
 }

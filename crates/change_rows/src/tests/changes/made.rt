@@ -1,24 +1,26 @@
 //! What the tests are made of: a timetable, and changes that are written down as sketches.
 
-ghost use Rattle.std.specs.Prelude.{◌≡◌, ◌≤◌, IfOk, length};
+ghost use Rattle.std.specs.Prelude.{◌≡◌, ◌≤◌, List, IfOk, OnOk, length};
 ghost use Rattle.plan_facts.specs.Limits.{weight_limit};
+ghost use Rattle.plan_facts.specs.declared.record.ClassDef.{ClassDef};
 ghost use Rattle.plan_changes.specs.Fits.{IsOfSchema};
-ghost use Rattle.plan_changes.specs.Performed.{MayPerform};
+ghost use Rattle.plan_changes.specs.Performed.{MayPerform, plan_after};
 
 use plan_changes::{Change, ChangeFault, Deed, FieldItem, Item, Ready, ValueItem, prepare};
 use plan_facts::{Kind, List, Memory, Names, Plan, PlanFault, Schema, Text};
 use std::alloc::Global;
+use std::process::Abort;
 use std::test::Fail;
 use test_plans::{ClassSketch, FactSketch, VarSketch, plan_of, schema_of};
 
 /// The timeslots' class.
-pub const SLOT: u8 = 0;
+pub(super) const SLOT: u8 = 0;
 
 /// The rooms' class.
-pub const ROOM: u8 = 1;
+pub(super) const ROOM: u8 = 1;
 
 /// The lessons' class.
-pub const LESSON: u8 = 2;
+pub(super) const LESSON: u8 = 2;
 
 /// The timetable's classes.
 const CLASSES: &[ClassSketch] = &[
@@ -68,15 +70,15 @@ const FACTS: &[&[FactSketch]] = &[
 const NAMES: &[&str] = &["Maths", "Ada", "9A", "Physics", "9B"];
 
 /// What a field gets.
-#[derive(Clone, Copy, Drop)]
-pub enum Given {
+#[derive(Clone, Copy)]
+pub(super) enum Given {
     Num(i64),
     Name(&'static str),
 }
 
 /// A change: its deed, class and id, and what fields and variables get, in the order of their names.
-#[derive(Clone, Copy, Drop)]
-pub struct Sketch(
+#[derive(Clone, Copy)]
+pub(super) struct Sketch(
     pub Deed,
     pub &'static str,
     pub u32,
@@ -97,80 +99,99 @@ fn item(alloc: Global, given: Given) -> Result<Item, Memory> {
     }
 }
 
-/// Gives fields of the change what they get; false where they don't stand in the order of their names.
+/// A field by its name, and what it gets.
+fn field_item(alloc: Global, name: &str, given: Given) -> Result<FieldItem, Memory> {
+    let item = item(alloc, given)?;
+    let name = text(alloc, name)?;
+    Ok(FieldItem { name, item })
+}
+
+/// Gives fields of the change what they get; they stand in the order of their names.
 fn give_fields(
+    rt: &impl Abort,
     alloc: Global,
     change: &mut Change,
     fields: &[(&'static str, Given)],
-) -> Result<bool, Memory> {
+) -> Result<(), Memory> {
     for (name, given) in fields {
-        let name = text(alloc, name)?;
-        let item = item(alloc, *given)?;
-        if !change.give_field(FieldItem { name, item })? {
-            return Ok(false);
-        }
+        let item = field_item(alloc, name, *given)?;
+        let is_given = change.give_field(item)?;
+        assert!(rt; is_given);
     }
-    Ok(true)
+    Ok(())
 }
 
-/// Gives variables of the change what they get; false where they don't stand in the order of their names.
+/// Gives variables of the change what they get; they stand in the order of their names.
 fn give_values(
+    rt: &impl Abort,
     alloc: Global,
     change: &mut Change,
     values: &[(&'static str, Option<u32>)],
-) -> Result<bool, Memory> {
+) -> Result<(), Memory> {
     for (name, value) in values {
         let name = text(alloc, name)?;
-        if !change.give_value(ValueItem {
+        let is_given = change.give_value(ValueItem {
             name,
             value: *value,
-        })? {
-            return Ok(false);
-        }
+        })?;
+        assert!(rt; is_given);
     }
-    Ok(true)
+    Ok(())
 }
 
-/// The change of a sketch; none where its items don't stand in the order of their names.
-fn change_of(alloc: Global, sketch: Sketch) -> Result<Option<Change>, Memory> {
-    let Sketch(deed, class, id, fields, values) = sketch;
-    let mut change = Change::new(alloc, deed);
-    change.class = text(alloc, class)?;
-    change.id = id;
-    if !give_fields(alloc, &mut change, fields)? || !give_values(alloc, &mut change, values)? {
-        return Ok(None);
-    }
-    Ok(Some(change))
+/// Gives fields and variables of the change what they get in the sketch.
+fn give_items(
+    rt: &impl Abort,
+    alloc: Global,
+    change: &mut Change,
+    sketch: Sketch,
+) -> Result<(), Memory> {
+    give_fields(rt, alloc, change, sketch.3)?;
+    give_values(rt, alloc, change, sketch.4)
 }
 
-/// A change of a rule's weight, which is at most a million.
-pub fn weight_of(alloc: Global, rule: &str, weight: u32) -> Result<Change, Memory>
-    requires { weight ≤ weight_limit }
-{
-    let mut change = Change::new(alloc, Deed::Weight);
-    change.rule = text(alloc, rule)?;
-    change.weight = weight;
+/// A change of a fact that gives it nothing yet.
+fn bare(alloc: Global, deed: Deed, class: &str, id: u32) -> Result<Change, Memory> {
+    let class = text(alloc, class)?;
+    Ok(Change {
+        deed,
+        class,
+        id,
+        fields: List::new(alloc),
+        values: List::new(alloc),
+        rule: Text::new(alloc),
+        weight: 0,
+    })
+}
+
+/// The change of a sketch.
+fn change_of(rt: &impl Abort, alloc: Global, sketch: Sketch) -> Result<Change, Memory> {
+    let mut change = bare(alloc, sketch.0, sketch.1, sketch.2)?;
+    give_items(rt, alloc, &mut change, sketch)?;
     Ok(change)
 }
 
-/// The names of the rules.
-fn rules(alloc: Global) -> Result<List<Text>, Memory>
-    ensures { IfOk result (λ rules. length rules ≡ 2) }
+/// A change of a rule's weight, which is at most a million.
+fn weight_of(alloc: Global, rule: &str, weight: u32) -> Result<Change, Memory>
+    requires { weight ≤ weight_limit }
 {
-    let mut rules = List::new(alloc);
-    rules.push(text(alloc, "room_conflict")?)?;
-    rules.push(text(alloc, "room_size")?)?;
-    Ok(rules)
+    let rule = text(alloc, rule)?;
+    Ok(Change {
+        deed: Deed::Weight,
+        class: Text::new(alloc),
+        id: 0,
+        fields: List::new(alloc),
+        values: List::new(alloc),
+        rule,
+        weight,
+    })
 }
 
-/// The weights of the rules.
-pub fn weights(alloc: Global) -> Result<List<u32>, Memory>
-    ensures { IfOk result (λ weights. length weights ≡ 2) }
-{
-    let mut weights = List::new(alloc);
-    weights.push(1)?;
-    weights.push(1)?;
-    Ok(weights)
+/// The names of the two rules.
+fn rules(alloc: Global) -> Result<[Text; 2], Memory> {
+    let conflict = text(alloc, "room_conflict")?;
+    let size = text(alloc, "room_size")?;
+    Ok([conflict, size])
 }
 
 /// The names, numbered in their order.
@@ -192,9 +213,26 @@ fn plan(alloc: Global, schema: &Schema) -> Result<Plan, PlanFault>
     plan_of(alloc, schema, FACTS)
 }
 
+/// Makes a change that may be made, where each rule weighs 1; the weights after it.
+pub(super) fn perform(
+    alloc: Global,
+    ready: &Ready,
+    plan: &mut Plan,
+    names: &mut Names,
+) -> Result<List<u32>, Memory>
+    requires may { MayPerform ready.now plan.old 2 }
+    requires few { length names.old ≤ 1000 }
+    ensures plan { OnOk result (plan.new ≡ plan_after ready.now names.old plan.old) }
+    ensures schema { (classes : List ClassDef) → IsOfSchema classes plan.old → IsOfSchema classes plan.new }
+{
+    let mut weights = List::from_slice(alloc, &[1, 1])?;
+    ready.perform(plan, names, weights.as_mut_slice())?;
+    Ok(weights)
+}
+
 /// What a test changes.
 #[derive(Drop)]
-pub struct World {
+pub(super) struct World {
     pub alloc: Global,
     pub schema: Schema,
     pub plan: Plan,
@@ -202,7 +240,7 @@ pub struct World {
 }
 
 /// The timetable.
-pub fn timetable(alloc: Global) -> Result<World, Fail>
+pub(super) fn timetable(alloc: Global) -> Result<World, Fail>
     ensures { IfOk result (λ world. IsOfSchema world.schema world.plan) }
 {
     let schema = schema_of(alloc, CLASSES)?;
@@ -217,8 +255,8 @@ pub fn timetable(alloc: Global) -> Result<World, Fail>
 }
 
 impl World {
-    /// The change, made ready.
-    pub fn prepare(&self, change: &Change) -> Result<Ready, ChangeFault>
+    /// The change, made ready; or its fault.
+    fn prepare(&self, change: &Change) -> Result<Ready, ChangeFault>
         ensures may { IsOfSchema self.now.schema self.now.plan
             → IfOk result (λ ready. MayPerform ready self.now.plan 2) }
     {
@@ -228,50 +266,55 @@ impl World {
             &self.schema,
             &self.plan,
             &self.names,
-            rules.as_slice(),
+            &rules,
             change,
         )
     }
 
-    /// The change of the sketch, made ready; or its fault, or none where the sketch isn't in order.
-    pub fn ready(&self, sketch: Sketch) -> Result<Ready, Option<ChangeFault>>
+    /// The change of the sketch, made ready; or its fault.
+    pub(super) fn ready(&self, rt: &impl Abort, sketch: Sketch) -> Result<Ready, ChangeFault>
         ensures may { IsOfSchema self.now.schema self.now.plan
             → IfOk result (λ ready. MayPerform ready self.now.plan 2) }
     {
-        let Ok(Some(change)) = change_of(self.alloc, sketch) else {
-            return Err(None);
-        };
-        match self.prepare(&change) {
-            Ok(ready) => Ok(ready),
-            Err(fault) => Err(Some(fault)),
+        let change = change_of(rt, self.alloc, sketch)?;
+        self.prepare(&change)
+    }
+
+    /// The change of a rule's weight, which is at most a million, made ready; or its fault.
+    pub(super) fn ready_weight(&self, rule: &str, weight: u32) -> Result<Ready, ChangeFault>
+        requires { weight ≤ weight_limit }
+        ensures may { IsOfSchema self.now.schema self.now.plan
+            → IfOk result (λ ready. MayPerform ready self.now.plan 2) }
+    {
+        let change = weight_of(self.alloc, rule, weight)?;
+        self.prepare(&change)
+    }
+
+    /// What the change of the sketch is refused for; none where it may be made.
+    pub(super) fn fault(&self, rt: &impl Abort, sketch: Sketch) -> Option<ChangeFault> {
+        match self.ready(rt, sketch) {
+            Ok(_) => None,
+            Err(fault) => Some(fault),
         }
     }
 
-    /// Makes a change that may be made, and gives the weights after it; none where there are too many names.
-    pub fn make(&mut self, ready: &Ready) -> Result<Option<List<u32>>, Memory>
+    /// Makes a change that may be made; the weights after it.
+    pub(super) fn make(&mut self, rt: &impl Abort, ready: Ready) -> Result<List<u32>, Memory>
         requires schema { IsOfSchema self.old.schema self.old.plan }
-        requires may { MayPerform ready.now self.old.plan 2 }
+        requires may { MayPerform ready self.old.plan 2 }
         ensures { IsOfSchema self.new.schema self.new.plan }
     {
-        if self.names.count() > 1000 {
-            return Ok(None);
-        }
-        let mut weights = weights(self.alloc)?;
-        ready.perform(&mut self.plan, &mut self.names, weights.as_mut_slice())?;
-        Ok(Some(weights))
+        assert!(rt; self.names.count() <= 1000);
+        perform(self.alloc, &ready, &mut self.plan, &mut self.names)
     }
 
-    /// Makes the change; whether it was made.
-    pub fn perform(&mut self, sketch: Sketch) -> Result<bool, Memory>
+    /// Makes the change of the sketch, or gives its fault.
+    pub(super) fn perform(&mut self, rt: &impl Abort, sketch: Sketch) -> Result<(), ChangeFault>
         requires { IsOfSchema self.old.schema self.old.plan }
         ensures { IsOfSchema self.new.schema self.new.plan }
     {
-        match self.ready(sketch) {
-            Ok(ready) => {
-                let made = self.make(&ready)?;
-                Ok(made.is_some())
-            }
-            Err(_) => Ok(false),
-        }
+        let ready = self.ready(rt, sketch)?;
+        self.make(rt, ready)?;
+        Ok(())
     }
 }

@@ -1,10 +1,15 @@
 //! What changes make of a timetable.
 
+ghost use Rattle.std.specs.Prelude.{◌≤◌};
+ghost use Rattle.plan_facts.specs.Limits.{weight_limit};
 ghost use Rattle.plan_changes.specs.Fits.{IsOfSchema};
 
-use super::made::{Given, LESSON, ROOM, SLOT, Sketch, World, timetable, weight_of};
-use plan_changes::{Change, Deed};
-use plan_facts::{List, Memory};
+use super::made::{Given, LESSON, ROOM, SLOT, Sketch, World, timetable};
+use super::seen::{Seen, expect};
+use plan_changes::{ChangeFault, Deed};
+use plan_facts::List;
+use std::alloc::Global;
+use std::process::Abort;
 use std::test::Fail;
 
 /// A change that makes a room.
@@ -48,94 +53,135 @@ const ASSIGN: Sketch = Sketch(
     &[("room", Some(1)), ("slot", Some(1))],
 );
 
-/// The fields of a fact; none where it isn't there.
-fn fields(world: &World, class: u8, id: u32) -> &[i64] {
-    match world.plan.raw(class, id) {
-        Some(raw) => raw.fields.as_slice(),
-        None => &[],
+/// Changes one after another, and what is seen after them.
+#[derive(Clone, Copy)]
+struct Stage(&'static [Sketch], &'static [Seen]);
+
+/// Makes changes of the world.
+fn make_all(rt: &impl Abort, world: &mut World, changes: &[Sketch]) -> Result<(), ChangeFault>
+    requires { IsOfSchema world.old.schema world.old.plan }
+    ensures { IsOfSchema world.new.schema world.new.plan }
+{
+    for sketch in changes {
+        world.perform(rt, *sketch)?;
     }
+    Ok(())
 }
 
-/// The values of an entity; none where it isn't there.
-fn values(world: &World, class: u8, id: u32) -> &[Option<u32>] {
-    match world.plan.raw(class, id) {
-        Some(raw) => raw.values.as_slice(),
-        None => &[],
+/// Makes changes of the world stage by stage, and looks what is seen after each stage.
+fn make_stages(rt: &impl Abort, world: &mut World, stages: &[Stage]) -> Result<(), Fail>
+    requires { IsOfSchema world.old.schema world.old.plan }
+{
+    for stage in stages {
+        make_all(rt, world, stage.0)?;
+        expect(rt, world, stage.1);
     }
+    Ok(())
 }
+
+/// Makes changes of the timetable stage by stage, and looks what is seen after each stage.
+fn try_stages(rt: &impl Abort, alloc: Global, stages: &[Stage]) -> Result<(), Fail> {
+    let mut world = timetable(alloc)?;
+    make_stages(rt, &mut world, stages)
+}
+
+/// Two rooms are made, then one of them is taken out and another one made.
+const ROOMS: &[Stage] = &[
+    Stage(&[ADD_ROOM, ADD_ROOM], &[Seen::Ids(ROOM, &[1, 2, 3])]),
+    Stage(
+        &[REMOVE_ROOM, ADD_ROOM],
+        &[Seen::Ids(ROOM, &[1, 2, 4]), Seen::Fields(ROOM, 4, &[5])],
+    ),
+];
 
 #[test]
 fn an_id_is_never_used_again(rt: HostRuntime) -> Result<(), Fail> {
-    let mut world = timetable(rt.alloc())?;
-    assert!(rt; world.perform(ADD_ROOM)?);
-    assert!(rt; world.perform(ADD_ROOM)?);
-    assert_eq!(rt; world.plan.ids(ROOM), [1, 2, 3].as_slice());
-    assert!(rt; world.perform(REMOVE_ROOM)?);
-    assert!(rt; world.perform(ADD_ROOM)?);
-    assert_eq!(rt; world.plan.ids(ROOM), [1, 2, 4].as_slice());
-    assert_eq!(rt; fields(&world, ROOM, 4), [5].as_slice());
-    Ok(())
+    try_stages(&rt, rt.alloc(), ROOMS)
 }
+
+/// A timeslot that lessons have is taken out.
+const WITHOUT_SLOT: &[Stage] = &[Stage(
+    &[REMOVE_SLOT],
+    &[
+        Seen::Ids(SLOT, &[1]),
+        Seen::Values(LESSON, 1, &[Some(1), Some(1)]),
+        Seen::Values(LESSON, 2, &[None, Some(1)]),
+        Seen::Values(LESSON, 5, &[None, None]),
+        Seen::Unplaced(3),
+    ],
+)];
 
 #[test]
 fn a_value_that_is_taken_out_is_let_go(rt: HostRuntime) -> Result<(), Fail> {
-    let mut world = timetable(rt.alloc())?;
-    assert!(rt; world.perform(REMOVE_SLOT)?);
-    assert_eq!(rt; world.plan.ids(SLOT), [1].as_slice());
-    assert_eq!(rt; values(&world, LESSON, 1), [Some(1), Some(1)].as_slice());
-    assert_eq!(rt; values(&world, LESSON, 2), [None, Some(1)].as_slice());
-    assert_eq!(rt; values(&world, LESSON, 5), [None, None].as_slice());
-    assert_eq!(rt; world.plan.unplaced(), 3);
-    Ok(())
+    try_stages(&rt, rt.alloc(), WITHOUT_SLOT)
 }
+
+/// A timeslot's hours change.
+const MOVED_SLOT: &[Stage] = &[Stage(
+    &[MOVE_SLOT],
+    &[Seen::Fields(SLOT, 2, &[1, 580, 640]), Seen::Names(5)],
+)];
 
 #[test]
 fn fields_that_are_named_change(rt: HostRuntime) -> Result<(), Fail> {
-    let mut world = timetable(rt.alloc())?;
-    assert!(rt; world.perform(MOVE_SLOT)?);
-    assert_eq!(rt; fields(&world, SLOT, 2), [1, 580, 640].as_slice());
-    assert_eq!(rt; world.names.count(), 5);
-    Ok(())
+    try_stages(&rt, rt.alloc(), MOVED_SLOT)
 }
+
+/// A lesson with new names is made.
+const NEW_LESSON: &[Stage] = &[Stage(
+    &[ADD_LESSON],
+    &[
+        Seen::Fields(LESSON, 6, &[5, 1, 6, 12]),
+        Seen::Values(LESSON, 6, &[None, Some(1)]),
+        Seen::Name(b"Art", 5),
+        Seen::Name(b"9C", 6),
+    ],
+)];
 
 #[test]
 fn new_names_are_numbered_in_the_order_of_fields(rt: HostRuntime) -> Result<(), Fail> {
-    let mut world = timetable(rt.alloc())?;
-    assert!(rt; world.perform(ADD_LESSON)?);
-    assert_eq!(rt; fields(&world, LESSON, 6), [5, 1, 6, 12].as_slice());
-    assert_eq!(rt; values(&world, LESSON, 6), [None, Some(1)].as_slice());
-    assert_eq!(rt; world.names.find(b"Art"), Some(5));
-    assert_eq!(rt; world.names.find(b"9C"), Some(6));
-    Ok(())
+    try_stages(&rt, rt.alloc(), NEW_LESSON)
 }
+
+/// The pinned lesson's variables change.
+const ASSIGNED: &[Stage] = &[Stage(
+    &[ASSIGN],
+    &[
+        Seen::Values(LESSON, 5, &[Some(1), Some(1)]),
+        Seen::Pinned(LESSON, 5),
+    ],
+)];
 
 #[test]
 fn a_pinned_lesson_is_assigned(rt: HostRuntime) -> Result<(), Fail> {
-    let mut world = timetable(rt.alloc())?;
-    assert!(rt; world.perform(ASSIGN)?);
-    assert_eq!(rt; values(&world, LESSON, 5), [Some(1), Some(1)].as_slice());
-    assert!(rt; world.plan.pinned(LESSON, 5));
-    Ok(())
+    try_stages(&rt, rt.alloc(), ASSIGNED)
 }
 
-/// Makes the change of a rule's weight; the weights after it.
-fn weights_after(world: &mut World, change: &Change) -> Result<Option<List<u32>>, Memory>
+/// Gives a rule another weight, which is at most a million; the weights after that.
+fn weights_after(
+    rt: &impl Abort,
+    world: &mut World,
+    rule: &str,
+    weight: u32,
+) -> Result<List<u32>, ChangeFault>
+    requires schema { IsOfSchema world.old.schema world.old.plan }
+    requires weight { weight ≤ weight_limit }
+{
+    let ready = world.ready_weight(rule, weight)?;
+    Ok(world.make(rt, ready)?)
+}
+
+/// Fails where the second rule's new weight isn't the only one that moved.
+fn expect_weights(rt: &impl Abort, world: &mut World) -> Result<(), Fail>
     requires { IsOfSchema world.old.schema world.old.plan }
 {
-    match world.prepare(change) {
-        Ok(ready) => world.make(&ready),
-        Err(_) => Ok(None),
-    }
+    let weights = weights_after(rt, world, "room_size", 3)?;
+    assert_eq!(rt; weights.as_slice(), [1, 3].as_slice());
+    Ok(())
 }
 
 #[test]
 fn a_weight_change_moves_one_weight(rt: HostRuntime) -> Result<(), Fail> {
     let mut world = timetable(rt.alloc())?;
-    let change = weight_of(rt.alloc(), "room_size", 3)?;
-    let weights = weights_after(&mut world, &change)?;
-    let Some(weights) = weights else {
-        panic!(rt; "refused");
-    };
-    assert_eq!(rt; weights.as_slice(), [1, 3].as_slice());
-    Ok(())
+    expect_weights(&rt, &mut world)
 }

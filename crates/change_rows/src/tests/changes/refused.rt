@@ -1,8 +1,8 @@
 //! What changes of a timetable are refused for.
 
-use super::made::{Given, Sketch, World, timetable, weight_of};
+use super::made::{Given, Sketch, World, timetable};
 use plan_changes::{ChangeFault, Deed};
-use plan_facts::Memory;
+use std::process::Abort;
 use std::test::Fail;
 
 /// A name of 64 bytes.
@@ -174,17 +174,23 @@ const TAKEN: &[(Sketch, u8, u32)] = &[
     ),
 ];
 
-/// What the world refuses the change for; none where it may be made.
-fn fault_of(world: &World, sketch: Sketch) -> Option<ChangeFault> {
-    match world.ready(sketch) {
-        Ok(_) => None,
-        Err(fault) => fault,
+/// Fails where a change isn't refused for its fault.
+fn expect_refused(rt: &impl Abort, world: &World) {
+    for (sketch, fault) in REFUSED {
+        assert_eq!(rt; world.fault(rt, *sketch), Some(*fault));
     }
 }
 
+#[test]
+fn bad_changes_are_refused_for_their_first_fault(rt: HostRuntime) -> Result<(), Fail> {
+    let world = timetable(rt.alloc())?;
+    expect_refused(&rt, &world);
+    Ok(())
+}
+
 /// The class and id of the fact that the change is about; none where it is refused.
-fn fact_of(world: &World, sketch: Sketch) -> Option<(u8, u32)> {
-    match world.ready(sketch) {
+fn fact_of(rt: &impl Abort, world: &World, sketch: Sketch) -> Option<(u8, u32)> {
+    match world.ready(rt, sketch) {
         Ok(ready) => match ready.rule() {
             Some(_) => None,
             None => Some((ready.class(), ready.id())),
@@ -193,37 +199,42 @@ fn fact_of(world: &World, sketch: Sketch) -> Option<(u8, u32)> {
     }
 }
 
-#[test]
-fn bad_changes_are_refused_for_their_first_fault(rt: HostRuntime) -> Result<(), Fail> {
-    let world = timetable(rt.alloc())?;
-    for (sketch, fault) in REFUSED {
-        assert_eq!(rt; fault_of(&world, *sketch), Some(*fault));
+/// Fails where a change doesn't name its fact.
+fn expect_taken(rt: &impl Abort, world: &World) {
+    for (sketch, class, id) in TAKEN {
+        assert_eq!(rt; fact_of(rt, world, *sketch), Some((*class, *id)));
     }
-    Ok(())
 }
 
 #[test]
 fn good_changes_name_their_fact(rt: HostRuntime) -> Result<(), Fail> {
     let world = timetable(rt.alloc())?;
-    for (sketch, class, id) in TAKEN {
-        assert_eq!(rt; fact_of(&world, *sketch), Some((*class, *id)));
-    }
+    expect_taken(&rt, &world);
     Ok(())
 }
 
 /// The rule of a weight change, or what it is refused for.
-fn rule_of(world: &World, name: &str) -> Result<Result<Option<u8>, ChangeFault>, Memory> {
-    let change = weight_of(world.alloc, name, 3)?;
-    match world.prepare(&change) {
-        Ok(ready) => Ok(Ok(ready.rule())),
-        Err(fault) => Ok(Err(fault)),
+fn rule_of(world: &World, name: &str) -> Result<Option<u8>, ChangeFault> {
+    let ready = world.ready_weight(name, 3)?;
+    Ok(ready.rule())
+}
+
+/// Rules by their names, each with its number or with what a change of its weight is refused for.
+const RULES: &[(&str, Result<Option<u8>, ChangeFault>)] = &[
+    ("room_size", Ok(Some(1))),
+    ("rum", Err(ChangeFault::UnknownRule)),
+];
+
+/// Fails where a weight change doesn't know its rule.
+fn expect_rules(rt: &impl Abort, world: &World) {
+    for (name, rule) in RULES {
+        assert_eq!(rt; rule_of(world, name), *rule);
     }
 }
 
 #[test]
 fn a_weight_change_knows_its_rule(rt: HostRuntime) -> Result<(), Fail> {
     let world = timetable(rt.alloc())?;
-    assert_eq!(rt; rule_of(&world, "room_size")?, Ok(Some(1)));
-    assert_eq!(rt; rule_of(&world, "rum")?, Err(ChangeFault::UnknownRule));
+    expect_rules(&rt, &world);
     Ok(())
 }

@@ -1,0 +1,8 @@
+//! Changes on small plans, with what the rules of changes say of each.
+
+mod limits;
+mod made;
+mod performed;
+mod refused;
+mod seen;
+mod undone;

@@ -1,0 +1,58 @@
+//! What is seen of a timetable.
+
+use super::made::World;
+use std::process::Abort;
+
+/// Something that is seen: the ids of a class, the next of them, the fields of a fact, the values of an entity, how many
+/// facts were made, how many variables are null that may not stay so, how many names there are, the number of a name, or that
+/// an entity is pinned.
+#[derive(Clone, Copy)]
+pub(super) enum Seen {
+    Ids(u8, &'static [u32]),
+    NextId(u8, u32),
+    Fields(u8, u32, &'static [i64]),
+    Values(u8, u32, &'static [Option<u32>]),
+    Made(u32),
+    Unplaced(u32),
+    Names(u32),
+    Name(&'static [u8], u32),
+    Pinned(u8, u32),
+}
+
+/// The fields of a fact; none where it isn't there.
+fn fields(world: &World, class: u8, id: u32) -> &[i64] {
+    match world.plan.raw(class, id) {
+        Some(raw) => raw.fields.as_slice(),
+        None => &[],
+    }
+}
+
+/// The values of an entity; none where it isn't there.
+fn values(world: &World, class: u8, id: u32) -> &[Option<u32>] {
+    match world.plan.raw(class, id) {
+        Some(raw) => raw.values.as_slice(),
+        None => &[],
+    }
+}
+
+/// Whether this is seen of the world.
+fn is_seen(world: &World, seen: Seen) -> bool {
+    match seen {
+        Seen::Ids(class, ids) => world.plan.ids(class) == ids,
+        Seen::NextId(class, id) => world.plan.next_id(class) == id,
+        Seen::Fields(class, id, numbers) => fields(world, class, id) == numbers,
+        Seen::Values(class, id, wanted) => values(world, class, id) == wanted,
+        Seen::Made(count) => world.plan.made() == count,
+        Seen::Unplaced(count) => world.plan.unplaced() == count,
+        Seen::Names(count) => world.names.count() == count,
+        Seen::Name(text, number) => world.names.find(text) == Some(number),
+        Seen::Pinned(class, id) => world.plan.pinned(class, id),
+    }
+}
+
+/// Fails where one of these isn't seen of the world.
+pub(super) fn expect(rt: &impl Abort, world: &World, all: &[Seen]) {
+    for (place, seen) in all.iter().enumerate() {
+        assert!(rt; is_seen(world, *seen), "at {place}");
+    }
+}

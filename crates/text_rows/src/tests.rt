@@ -1,0 +1,5 @@
+mod fixtures;
+mod json;
+mod records;
+mod settings;
+mod words;

@@ -41,6 +41,14 @@ fn answer(answer: PostAnswer<Word>) -> [u32; 2] {
     }
 }
 
+// Posts a word.
+fn post_word<W: Wait>(rt: &W, inbox: &Inbox<Word>, seat: &mut Seat<Word>, word: u32) -> [u32; 2]
+    requires { seat.old.inbox ≡ inbox.now }
+    ensures { (seat.new.inbox ≡ inbox.now) × (seat.new.number ≡ seat.old.number) }
+{
+    answer(inbox.post(rt, seat, Word(word)))
+}
+
 // The first place at which the journal has another entry than that; none where it has these entries and no others.
 fn wrong_entry(journal: &Journal<Word>, wanted: &[[u32; 4]]) -> Option<usize> {
     for (place, entry) in wanted.iter().enumerate() {
@@ -59,13 +67,13 @@ fn a_journal_of_one_post(rt: HostRuntime) -> Result<(), Fail> {
     let (Some(mut q), Some(mut p)) = (seats.pop(), seats.pop()) else {
         panic!(rt; "there are two seats")
     };
-    assert!(rt; answer(inbox.post(&rt, &mut p, Word(7))) == [0, 0]);
+    assert!(rt; post_word(&rt, &inbox, &mut p, 7) == [0, 0]);
     assert!(rt; inbox.cut(&rt, &mut q, 0) == 1);
-    assert!(rt; answer(inbox.post(&rt, &mut p, Word(8))) == [1, 8]);
+    assert!(rt; post_word(&rt, &inbox, &mut p, 8) == [1, 8]);
     assert!(rt; inbox.post_at(&rt, &mut p, 0) == Ok(Some(Word(7))));
     assert!(rt; inbox.post_at(&rt, &mut p, 1) == Ok(None));
     inbox.shut(&rt, &mut q);
-    assert!(rt; answer(inbox.post(&rt, &mut p, Word(9))) == [2, 9]);
+    assert!(rt; post_word(&rt, &inbox, &mut p, 9) == [2, 9]);
     inbox.meet(&mut q, &mut p);
     seats.push(p)?;
     seats.push(q)?;
@@ -82,7 +90,7 @@ fn two_seats_close_without_a_list(rt: HostRuntime) -> Result<(), Fail> {
     let (Some(mut q), Some(mut p)) = (seats.pop(), seats.pop()) else {
         panic!(rt; "there are two seats")
     };
-    assert!(rt; answer(inbox.post(&rt, &mut p, Word(7))) == [0, 0]);
+    assert!(rt; post_word(&rt, &inbox, &mut p, 7) == [0, 0]);
     assert!(rt; inbox.cut(&rt, &mut q, 0) == 1);
     inbox.shut(&rt, &mut q);
     let journal = inbox.close_both(p, q);
@@ -171,7 +179,7 @@ fn three_threads_post_each_word_once_and_in_order(rt: HostRuntime) -> Result<(),
     };
     let (a, (mut b, c)) = post_by_three(&rt, &inbox, a, b, c);
     assert!(rt; matches!(inbox.post_at(&rt, &mut b, 1499), Ok(Some(_))));
-    assert!(rt; answer(inbox.post(&rt, &mut b, Word(0))) == [1, 0]);
+    assert!(rt; post_word(&rt, &inbox, &mut b, 0) == [1, 0]);
     seats.push(a)?;
     seats.push(b)?;
     seats.push(c)?;

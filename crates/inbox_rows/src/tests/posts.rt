@@ -9,6 +9,7 @@ use live_posts::{Cutter, Fed, close_run, feed_all, no_post_is_refused, open_run}
 use plan_changes::{Body, Deed, LineFault, Post, Spot, StopCause};
 use plan_ports::{Gate, MemSource, NoGate, Source};
 use std::alloc::{AllocError, Global};
+use std::process::Abort;
 use std::sync::Wait;
 use std::test::Fail;
 use std::thread::{Threads, join_mut};
@@ -87,6 +88,21 @@ fn fed_at_once<W: Wait, S: Source>(
     Ok((fed, close_run(inbox, feeder, cutter)))
 }
 
+/// Where all is fed before the one cut, the feeder ends so, and the journal has these entries and no others.
+fn expect_feed<T: Wait + Abort>(
+    rt: &T,
+    alloc: Global,
+    src: &mut MemSource,
+    posts: u32,
+    ends: Fed,
+    wanted: &[Word],
+) -> Result<(), Memory> {
+    let (fed, journal) = fed_at_once(rt, alloc, src, posts)?;
+    assert_eq!(rt; fed, ends);
+    assert_eq!(rt; wrong_entry(&journal, wanted), None);
+    Ok(())
+}
+
 /// Six lines: two rooms, and four that name nothing or are no change.
 const SIX_LINES: &[u8] = br#"{"do":"add","class":"room","fields":{"capacity":5}}
 {"do":"add","class":"room","fields":{"capacity":5}}
@@ -109,12 +125,12 @@ const SIX_POSTS: &[Word] = &[
 fn six_lines_are_posted_in_order_however_the_bytes_come(rt: HostRuntime) -> Result<(), Fail> {
     for most in [1, 3, 1_000] {
         let mut src = source(rt.alloc(), SIX_LINES, most, &[])?;
-        let (fed, journal) = fed_at_once(&rt, rt.alloc(), &mut src, MOST_POSTS)?;
-        assert_eq!(rt; fed, Fed::Ended);
-        assert_eq!(rt; wrong_entry(&journal, SIX_POSTS), None);
+        expect_feed(&rt, rt.alloc(), &mut src, MOST_POSTS, Fed::Ended, SIX_POSTS)?;
     }
     Ok(())
 }
+
+const LONG_POSTS: &[Word] = &[Word::Long(1), Word::Change(2, Deed::Add), Word::Cut(0)];
 
 #[test]
 fn a_line_of_65537_bytes_is_posted_as_too_long(rt: HostRuntime) -> Result<(), Fail> {
@@ -125,70 +141,65 @@ fn a_line_of_65537_bytes_is_posted_as_too_long(rt: HostRuntime) -> Result<(), Fa
     for most in [1, 8_192] {
         assert!(rt; most >= 1);
         let mut src = source(rt.alloc(), &bytes, most, &[])?;
-        let (fed, journal) = fed_at_once(&rt, rt.alloc(), &mut src, MOST_POSTS)?;
-        assert_eq!(rt; fed, Fed::Ended);
-        assert_eq!(rt;
-            wrong_entry(
-                &journal,
-                &[Word::Long(1), Word::Change(2, Deed::Add), Word::Cut(0)]
-            ),
-            None
-        );
+        expect_feed(
+            &rt,
+            rt.alloc(),
+            &mut src,
+            MOST_POSTS,
+            Fed::Ended,
+            LONG_POSTS,
+        )?;
     }
     Ok(())
+}
+
+/// How a feeder of these bytes ends, how many entries the journal has, and the one at a place.
+fn fed_up_to<W: Wait>(
+    rt: &W,
+    alloc: Global,
+    bytes: &[u8],
+    place: usize,
+) -> Result<(Fed, usize, Word), Memory> {
+    let mut src = source(alloc, bytes, 1_000, &[])?;
+    let (fed, journal) = fed_at_once(rt, alloc, &mut src, MOST_POSTS)?;
+    Ok((fed, journal.len(), word_at(&journal, place)))
 }
 
 #[test]
 fn a_byte_behind_4096_lines_stops_the_feed(rt: HostRuntime) -> Result<(), Fail> {
     let mut bytes = vec![in rt.alloc(); b'\n'; 4_096]?;
-    let mut src = source(rt.alloc(), &bytes, 1_000, &[])?;
-    let (fed, journal) = fed_at_once(&rt, rt.alloc(), &mut src, MOST_POSTS)?;
-    assert_eq!(rt; fed, Fed::Ended);
-    assert_eq!(rt; journal.len(), 4_097);
-    assert_eq!(rt; word_at(&journal, 4_095), Word::Bad(4_096, Spot::Json));
+    let (fed, len, word) = fed_up_to(&rt, rt.alloc(), &bytes, 4_095)?;
+    assert_eq!(rt; (fed, len), (Fed::Ended, 4_097));
+    assert_eq!(rt; word, Word::Bad(4_096, Spot::Json));
     bytes.push(b'\n')?;
-    let mut src = source(rt.alloc(), &bytes, 1_000, &[])?;
-    let (fed, journal) = fed_at_once(&rt, rt.alloc(), &mut src, MOST_POSTS)?;
-    assert_eq!(rt; fed, Fed::Stopped(StopCause::Overrun));
-    assert_eq!(rt; journal.len(), 4_098);
-    assert_eq!(rt;
-        word_at(&journal, 4_096),
-        Word::Stop(4_097, StopCause::Overrun)
-    );
+    let (fed, len, word) = fed_up_to(&rt, rt.alloc(), &bytes, 4_096)?;
+    assert_eq!(rt; (fed, len), (Fed::Stopped(StopCause::Overrun), 4_098));
+    assert_eq!(rt; word, Word::Stop(4_097, StopCause::Overrun));
     Ok(())
 }
+
+const FAULT_POSTS: &[Word] = &[
+    Word::Bad(1, Spot::Json),
+    Word::Stop(2, StopCause::ReadFault),
+    Word::Cut(0),
+];
 
 #[test]
 fn a_fault_of_the_source_stops_the_feed_behind_the_lines_before(
     rt: HostRuntime,
 ) -> Result<(), Fail> {
     let mut src = source(rt.alloc(), b"one\ntwo\n", 3, &[2])?;
-    let (fed, journal) = fed_at_once(&rt, rt.alloc(), &mut src, MOST_POSTS)?;
-    assert_eq!(rt; fed, Fed::Stopped(StopCause::ReadFault));
+    let ends = Fed::Stopped(StopCause::ReadFault);
+    expect_feed(&rt, rt.alloc(), &mut src, MOST_POSTS, ends, FAULT_POSTS)?;
     assert_eq!(rt; src.faults(), 1);
-    assert_eq!(rt;
-        wrong_entry(
-            &journal,
-            &[
-                Word::Bad(1, Spot::Json),
-                Word::Stop(2, StopCause::ReadFault),
-                Word::Cut(0),
-            ]
-        ),
-        None
-    );
     Ok(())
 }
 
 #[test]
 fn a_post_too_many_ends_the_feeder(rt: HostRuntime) -> Result<(), Fail> {
     let mut src = source(rt.alloc(), b"one\ntwo\n", 100, &[])?;
-    let (fed, journal) = fed_at_once(&rt, rt.alloc(), &mut src, 1)?;
-    assert_eq!(rt; fed, Fed::Full);
-    assert_eq!(rt;
-        wrong_entry(&journal, &[Word::Bad(1, Spot::Json), Word::Cut(0)]),
-        None
-    );
+    let wanted = [Word::Bad(1, Spot::Json), Word::Cut(0)];
+    expect_feed(&rt, rt.alloc(), &mut src, 1, Fed::Full, &wanted)?;
     Ok(())
 }
 

@@ -1,6 +1,7 @@
 ghost use Rattle.std.specs.Prelude.{◌≡◌, ◌≤◌, IfOk, OnOk, false};
 ghost use Rattle.plan_changes.specs.Fits.{IsOfSchema};
 ghost use Rattle.plan_rules.specs.Range.{sizes_of};
+ghost use Rattle.score_director.specs.View.{at_rest};
 
 mod changes;
 
@@ -8,12 +9,13 @@ use super::gates::HoldingGate;
 use crate::worth;
 use move_workers::{Kit, Team, Worker, director_alone};
 use plan_facts::{Kind, List, Memory, Plan, Schema, Text};
-use plan_moves::{Set, Touch};
+use plan_moves::{Edit, Set, Touch};
 use plan_ports::NoGate;
 use plan_rules::{Book, Head, Judges, Kept, RuleDef, Rules};
 use plan_scores::{Level, PlanScore};
 use plan_search::Found;
 use plan_settings::Selector;
+use score_director::Director;
 use std::alloc::Global;
 use std::process::Abort;
 use std::test::Fail;
@@ -125,7 +127,16 @@ fn expect_touched(rt: &impl Abort, touched: &[Touch], shifts: &[u32]) {
     }
 }
 
-/// What is found of the candidates of a step is as wanted.
+/// Checks what was found of a candidate.
+fn expect_one(rt: &impl Abort, found: &Option<Found>, case: Option<(u32, &'static [u32])>) {
+    assert_eq!(rt; found.is_some(), case.is_some());
+    if let (Some(found), Some((shifts, ids))) = (found, case) {
+        assert_eq!(rt; found.score, taken(shifts));
+        expect_touched(rt, found.touched.as_slice(), ids);
+    }
+}
+
+/// What is found of a candidate of a step is as wanted.
 fn expect_found(
     rt: &impl Abort,
     worker: &mut Worker<Silent>,
@@ -141,11 +152,7 @@ fn expect_found(
     ensures { worker.new ≡ worker.old }
 {
     let found = worker.judge(kit, step, case.0)?;
-    assert_eq!(rt; found.is_some(), case.1.is_some());
-    if let (Some(found), Some((shifts, ids))) = (found, case.1) {
-        assert_eq!(rt; found.score, taken(shifts));
-        expect_touched(rt, found.touched.as_slice(), ids);
-    }
+    expect_one(rt, &found, case.1);
     Ok(())
 }
 
@@ -177,6 +184,21 @@ fn kit_of<'a>(schema: &'a Schema, rules: &'a Rules<Silent>) -> Kit<'a, Silent>
     }
 }
 
+/// A director of the plan, and the weights that it is under.
+fn director_of(alloc: Global, kit: &Kit<'_, Silent>) -> Result<(Director<Silent>, List<u32>), Fail>
+    requires { ⟦<Rules<Silent> as Kept>⟧.keeps kit.now.rules.now }
+    ensures rest { IfOk result (λ made. made.0 ≡ at_rest kit.now.rules.now.defs made.1 made.0.plan) }
+    ensures judges { IfOk result (λ made.
+        ⟦<Rules<Silent> as Judges>⟧.judges kit.now.rules.now made.1 (sizes_of made.0.plan)) }
+    ensures schema { IfOk result (λ made. IsOfSchema kit.now.schema.now made.0.plan) }
+{
+    let plan = plan_of(alloc, kit.schema, FACTS)?;
+    let weights = weights_of(alloc, kit.rules, &plan)?;
+    let under = weights.copy(alloc)?;
+    let director = director_alone(alloc, kit.rules, plan, weights)?;
+    Ok((director, under))
+}
+
 /// A worker on the plan.
 fn worker_of(alloc: Global, kit: &Kit<'_, Silent>) -> Result<Worker<Silent>, Fail>
     requires { ⟦<Rules<Silent> as Kept>⟧.keeps kit.now.rules.now }
@@ -185,9 +207,7 @@ fn worker_of(alloc: Global, kit: &Kit<'_, Silent>) -> Result<Worker<Silent>, Fai
     ensures own { IfOk result (λ worker. kit.now.rules.now.defs ≡ worker.director.rules) }
     ensures seed { IfOk result (λ worker. kit.now.seed ≡ worker.seed) }
 {
-    let plan = plan_of(alloc, kit.schema, FACTS)?;
-    let weights = weights_of(alloc, kit.rules, &plan)?;
-    let director = director_alone(alloc, kit.rules, plan, weights)?;
+    let (director, _) = director_of(alloc, kit)?;
     Ok(Worker::new(alloc, kit, director)?)
 }
 
@@ -219,20 +239,52 @@ fn emptied(id: u32) -> Set {
     }
 }
 
+/// What takes a played pillar back empties shifts 2 and 4.
+fn expect_emptied(rt: &impl Abort, back: Option<Edit>) {
+    let Some(back) = back else {
+        panic!(rt; "not doable")
+    };
+    assert_eq!(rt; back.sets(), [emptied(2), emptied(4)].as_slice());
+}
+
+/// A worker plays a candidate, after which it may judge and play as before.
+fn play(
+    worker: &mut Worker<Silent>,
+    kit: &Kit<'_, Silent>,
+    step: u32,
+    number: u32,
+) -> Result<Option<Edit>, Memory>
+    requires judges { let seen = worker.old.director in
+        ⟦<Rules<Silent> as Judges>⟧.judges kit.now.rules.now seen.weights (sizes_of seen.plan) }
+    requires own { kit.now.rules.now.defs ≡ worker.old.director.rules }
+    requires seed { kit.now.seed ≡ worker.old.seed }
+    requires step { 1 ≤ step }
+    ensures judges { let seen = worker.new.director in
+        ⟦<Rules<Silent> as Judges>⟧.judges kit.now.rules.now seen.weights (sizes_of seen.plan) }
+    ensures own { kit.now.rules.now.defs ≡ worker.new.director.rules }
+    ensures seed { kit.now.seed ≡ worker.new.seed }
+{
+    worker.play(kit, step, number)
+}
+
 /// Plays two pillars, one after the other, and judges what is left.
-fn play_two(rt: &impl Abort, worker: &mut Worker<Silent>, kit: &Kit<'_, Silent>) -> Result<(), Fail>
+fn play_two(
+    rt: &impl Abort,
+    worker: &mut Worker<Silent>,
+    kit: &Kit<'_, Silent>,
+) -> Result<(), Memory>
     requires judges { let seen = worker.old.director in
         ⟦<Rules<Silent> as Judges>⟧.judges kit.now.rules.now seen.weights (sizes_of seen.plan) }
     requires own { kit.now.rules.now.defs ≡ worker.old.director.rules }
     requires seed { kit.now.seed ≡ worker.old.seed }
 {
-    let back = worker.play(kit, 1, 2)?.ok_or("not doable")?;
-    assert_eq!(rt; back.sets(), [emptied(2), emptied(4)].as_slice());
+    let back = play(worker, kit, 1, 2)?;
+    expect_emptied(rt, back);
     expect_nurses(rt, worker, [Some(3), Some(3), Some(1), Some(3)], 4);
     expect_found(rt, worker, kit, 1, (2, None))?;
     expect_found(rt, worker, kit, 2, (9733, Some((4, &[3]))))?;
-    assert!(rt; worker.play(kit, 2, 9733)?.is_some());
-    assert!(rt; worker.play(kit, 1, 0)?.is_none());
+    assert!(rt; play(worker, kit, 2, 9733)?.is_some());
+    assert!(rt; play(worker, kit, 1, 0)?.is_none());
     expect_nurses(rt, worker, [Some(3); 4], 4);
     Ok(())
 }
@@ -260,15 +312,6 @@ fn candidates_are_judged_and_played(rt: HostRuntime) -> Result<(), Fail> {
     try_worker(&rt, alloc, &kit)
 }
 
-/// Checks what was found of a candidate of the first step.
-fn expect_one(rt: &impl Abort, found: &Option<Found>, case: Option<(u32, &'static [u32])>) {
-    assert_eq!(rt; found.is_some(), case.is_some());
-    if let (Some(found), Some((shifts, ids))) = (found, case) {
-        assert_eq!(rt; found.score, taken(shifts));
-        expect_touched(rt, found.touched.as_slice(), ids);
-    }
-}
-
 /// What is found of the first three candidates of the first step.
 const FIRST: [Option<(u32, &'static [u32])>; 3] = [Some((2, &[3])), None, Some((4, &[2, 4]))];
 
@@ -283,11 +326,8 @@ fn team_of(alloc: Global, kit: &Kit<'_, Silent>, workers: u32) -> Result<Team<Si
     ensures whole { IfOk result (λ team. team.is_torn ≡ false) }
     ensures schema { IfOk result (λ team. IsOfSchema kit.now.schema.now team.worker.director.plan) }
 {
-    let plan = plan_of(alloc, kit.schema, FACTS)?;
-    let weights = weights_of(alloc, kit.rules, &plan)?;
-    let under = weights.copy(alloc)?;
-    let director = director_alone(alloc, kit.rules, plan, weights)?;
-    Ok(Team::new(alloc, kit, director, under.as_slice(), workers)?)
+    let (director, weights) = director_of(alloc, kit)?;
+    Ok(Team::new(alloc, kit, director, weights.as_slice(), workers)?)
 }
 
 /// Judges the first three candidates of the first step, by batches of so many numbers.
@@ -422,7 +462,7 @@ fn play_pillar<T: Threads + Abort + Sync>(
     rt: &T,
     team: &mut Team<Silent>,
     kit: &Kit<'_, Silent>,
-) -> Result<(), Fail>
+) -> Result<(), Memory>
     requires whole { team.old.is_torn ≡ false }
     requires judges { let seen = team.old.worker.director in
         ⟦<Rules<Silent> as Judges>⟧.judges kit.now.rules.now seen.weights (sizes_of seen.plan) }
@@ -430,8 +470,8 @@ fn play_pillar<T: Threads + Abort + Sync>(
     requires seed { kit.now.seed ≡ team.old.worker.seed }
     ensures whole { OnOk result (team.new.is_torn ≡ false) }
 {
-    let back = team.play(kit, 1, 2)?.ok_or("not doable")?;
-    assert_eq!(rt; back.sets(), [emptied(2), emptied(4)].as_slice());
+    let back = team.play(kit, 1, 2)?;
+    expect_emptied(rt, back);
     Ok(())
 }
 

@@ -91,7 +91,7 @@ fn make(
     kit: &Kit<'_, Silent>,
     names: &mut Names,
     change: &Change,
-) -> Result<(), Fail>
+) -> Result<(), Memory>
     requires whole { team.old.is_torn ≡ false }
     requires judges { let seen = team.old.worker.director in
         ⟦<Rules<Silent> as Judges>⟧.judges kit.now.rules.now seen.weights (sizes_of seen.plan) }
@@ -106,11 +106,8 @@ fn make(
 {
     assert!(rt; names.count() <= MOST_NAMES);
     match team.lead().ready(kit.rules, kit.schema, names, change) {
-        Ok(ready) => {
-            team.change(kit, names, &ready)?;
-            Ok(())
-        }
-        Err(_) => Err("refused".into()),
+        Ok(ready) => team.change(kit, names, &ready),
+        Err(_) => panic!(rt; "refused"),
     }
 }
 
@@ -122,7 +119,7 @@ fn take(
     kit: &Kit<'_, Silent>,
     names: &mut Names,
     turns: &[Turn],
-) -> Result<(), Fail>
+) -> Result<(), Memory>
     requires whole { team.old.is_torn ≡ false }
     requires judges { let seen = team.old.worker.director in
         ⟦<Rules<Silent> as Judges>⟧.judges kit.now.rules.now seen.weights (sizes_of seen.plan) }
@@ -146,13 +143,12 @@ fn take(
 }
 
 /// What is found after all turns of the first candidate: the shift that came gets the nurse who came.
-fn expect_last(rt: &impl Abort, all: &[Option<Found>]) -> Result<(), Fail> {
+fn expect_last(rt: &impl Abort, all: &[Option<Found>]) {
     let Some(Some(found)) = all.first() else {
-        return Err("not doable".into());
+        panic!(rt; "not doable")
     };
     assert_eq!(rt; found.score, worth(-10));
     expect_touched(rt, found.touched.as_slice(), &[5]);
-    Ok(())
 }
 
 /// A team of so many workers takes all turns.
@@ -171,7 +167,8 @@ fn try_turns<T: Threads + Abort + Sync>(
     take(rt, alloc, &mut team, kit, &mut names, TURNS)?;
     expect_values(rt, team.plan(), &NURSES);
     let all = team.judged(rt, kit, &NoGate, 1, 0, 1)?;
-    expect_last(rt, &all)
+    expect_last(rt, &all);
+    Ok(())
 }
 
 // Candidate 0 of step 1 gives the third of three pillars the third of four choices, as before the changes; these are nurses

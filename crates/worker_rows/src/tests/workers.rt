@@ -7,6 +7,7 @@ mod changes;
 
 use super::gates::HoldingGate;
 use crate::worth;
+use changes::try_turns;
 use move_workers::{Kit, Team, Worker, director_alone};
 use plan_facts::{Kind, List, Memory, Plan, Schema, Text};
 use plan_moves::{Edit, Set, Touch};
@@ -156,6 +157,11 @@ fn expect_found(
     Ok(())
 }
 
+/// So many shifts have a nurse.
+fn expect_score(rt: &impl Abort, score: PlanScore, shifts: u32) {
+    assert_eq!(rt; score, taken(shifts));
+}
+
 /// The plan has these nurses in its shifts.
 fn expect_values(rt: &impl Abort, plan: &Plan, nurses: &[Option<u32>]) {
     let facts = plan.facts(SHIFT);
@@ -168,7 +174,7 @@ fn expect_values(rt: &impl Abort, plan: &Plan, nurses: &[Option<u32>]) {
 /// The worker's plan has these nurses in shifts 1 to 4, and its score.
 fn expect_nurses(rt: &impl Abort, worker: &Worker<Silent>, nurses: [Option<u32>; 4], shifts: u32) {
     expect_values(rt, worker.plan(), &nurses);
-    assert_eq!(rt; worker.score(), taken(shifts));
+    expect_score(rt, worker.score(), shifts);
 }
 
 fn kit_of<'a>(schema: &'a Schema, rules: &'a Rules<Silent>) -> Kit<'a, Silent>
@@ -247,6 +253,11 @@ fn expect_emptied(rt: &impl Abort, back: Option<Edit>) {
     assert_eq!(rt; back.sets(), [emptied(2), emptied(4)].as_slice());
 }
 
+/// Whether what a worker played was doable is as wanted.
+fn expect_played(rt: &impl Abort, back: Option<Edit>, doable: bool) {
+    assert_eq!(rt; back.is_some(), doable);
+}
+
 /// A worker plays a candidate, after which it may judge and play as before.
 fn play(
     worker: &mut Worker<Silent>,
@@ -278,38 +289,58 @@ fn play_two(
     requires own { kit.now.rules.now.defs ≡ worker.old.director.rules }
     requires seed { kit.now.seed ≡ worker.old.seed }
 {
-    let back = play(worker, kit, 1, 2)?;
-    expect_emptied(rt, back);
+    expect_emptied(rt, play(worker, kit, 1, 2)?);
     expect_nurses(rt, worker, [Some(3), Some(3), Some(1), Some(3)], 4);
     expect_found(rt, worker, kit, 1, (2, None))?;
     expect_found(rt, worker, kit, 2, (9733, Some((4, &[3]))))?;
-    assert!(rt; play(worker, kit, 2, 9733)?.is_some());
-    assert!(rt; play(worker, kit, 1, 0)?.is_none());
+    expect_played(rt, play(worker, kit, 2, 9733)?, true);
+    expect_played(rt, play(worker, kit, 1, 0)?, false);
     expect_nurses(rt, worker, [Some(3); 4], 4);
     Ok(())
 }
 
 /// A worker judges and plays.
+fn judge_and_play(
+    rt: &impl Abort,
+    worker: &mut Worker<Silent>,
+    kit: &Kit<'_, Silent>,
+) -> Result<(), Fail>
+    requires judges { let seen = worker.old.director in
+        ⟦<Rules<Silent> as Judges>⟧.judges kit.now.rules.now seen.weights (sizes_of seen.plan) }
+    requires own { kit.now.rules.now.defs ≡ worker.old.director.rules }
+    requires seed { kit.now.seed ≡ worker.old.seed }
+{
+    judge_three(rt, worker, kit)?;
+    play_two(rt, worker, kit)?;
+    expect_score(rt, worker.director().score(), 4);
+    Ok(())
+}
+
+/// The director's plan has four shifts.
+fn expect_shifts(rt: &impl Abort, director: Director<Silent>) {
+    expect_count(rt, director.plan().facts(SHIFT).len());
+}
+
+/// There are four.
+fn expect_count(rt: &impl Abort, count: usize) {
+    assert_eq!(rt; count, 4);
+}
+
+/// A worker judges and plays, and gives up its director.
 fn try_worker(rt: &impl Abort, alloc: Global, kit: &Kit<'_, Silent>) -> Result<(), Fail>
     requires { ⟦<Rules<Silent> as Kept>⟧.keeps kit.now.rules.now }
 {
     let mut worker = worker_of(alloc, kit)?;
-    judge_three(rt, &mut worker, kit)?;
-    play_two(rt, &mut worker, kit)?;
-    assert_eq!(rt; worker.director().score(), taken(4));
-    assert_eq!(rt; worker.into_director().plan().facts(SHIFT).len(), 4);
-    Ok(())
+    let tried = judge_and_play(rt, &mut worker, kit);
+    expect_shifts(rt, worker.into_director());
+    tried
 }
 
 // The words are those of plan_draws' tests. Under seed 0 nurse 3 gets, by candidates 0 and 2 of step 1, the third and the
 // second of three pillars, and by candidate 9733 of step 2 the second of two; candidate 1 of step 1 gives shift 3 to nurse 1.
 #[test]
 fn candidates_are_judged_and_played(rt: HostRuntime) -> Result<(), Fail> {
-    let alloc = rt.alloc();
-    let schema = schema(alloc)?;
-    let rules = rules_of(alloc, &schema)?;
-    let kit = kit_of(&schema, &rules);
-    try_worker(&rt, alloc, &kit)
+    try_on_plan(&rt, rt.alloc(), Trial::Worker)
 }
 
 /// What is found of the first three candidates of the first step.
@@ -336,7 +367,7 @@ fn judge_first<T: Threads + Abort + Sync>(
     team: &mut Team<Silent>,
     kit: &Kit<'_, Silent>,
     buffer: u32,
-) -> Result<(), Memory>
+) -> Result<(), Fail>
     requires whole { team.old.is_torn ≡ false }
     requires judges { let seen = team.old.worker.director in
         ⟦<Rules<Silent> as Judges>⟧.judges kit.now.rules.now seen.weights (sizes_of seen.plan) }
@@ -376,8 +407,7 @@ fn expect_hands<T: Threads + Abort + Sync>(
     requires buffer { buffer ≤ 1024 }
 {
     let mut team = team_of(alloc, kit, workers)?;
-    judge_first(rt, &mut team, kit, buffer)?;
-    Ok(())
+    judge_first(rt, &mut team, kit, buffer)
 }
 
 /// How many workers a team has, and how many numbers a batch.
@@ -410,14 +440,37 @@ fn expect_all_hands<T: Threads + Abort + Sync>(
 
 #[test]
 fn teams_find_the_same_by_any_workers_and_batches(rt: HostRuntime) -> Result<(), Fail> {
-    let alloc = rt.alloc();
-    let schema = schema(alloc)?;
-    let rules = rules_of(alloc, &schema)?;
-    let kit = kit_of(&schema, &rules);
-    expect_all_hands(&rt, alloc, &kit)
+    try_on_plan(&rt, rt.alloc(), Trial::Hands)
 }
 
-/// Two workers judge four candidates at once, while a gate holds some of them until others were entered.
+/// A gate that is not late was entered once at each of four candidates.
+fn expect_entered(rt: &impl Abort, gate: &HoldingGate) {
+    assert!(rt; !gate.is_late());
+    assert!(rt;
+        gate.times(0) == 1 && gate.times(1) == 1 && gate.times(2) == 1 && gate.times(3) == 1
+    );
+}
+
+/// A team judges four candidates at once, while a gate holds some of them until others were entered.
+fn judge_held<T: Threads + Abort + Sync>(
+    rt: &T,
+    team: &mut Team<Silent>,
+    kit: &Kit<'_, Silent>,
+    gate: &HoldingGate,
+) -> Result<(), Fail>
+    requires whole { team.old.is_torn ≡ false }
+    requires judges { let seen = team.old.worker.director in
+        ⟦<Rules<Silent> as Judges>⟧.judges kit.now.rules.now seen.weights (sizes_of seen.plan) }
+    requires own { kit.now.rules.now.defs ≡ team.old.worker.director.rules }
+    requires seed { kit.now.seed ≡ team.old.worker.seed }
+{
+    let all = team.judged(rt, kit, gate, 1, 0, 4)?;
+    expect_from(rt, 0, &all);
+    expect_entered(rt, gate);
+    Ok(())
+}
+
+/// The same by two workers.
 fn expect_held<T: Threads + Abort + Sync>(
     rt: &T,
     alloc: Global,
@@ -427,13 +480,7 @@ fn expect_held<T: Threads + Abort + Sync>(
     requires keeps { ⟦<Rules<Silent> as Kept>⟧.keeps kit.now.rules.now }
 {
     let mut team = team_of(alloc, kit, 2)?;
-    let all = team.judged(rt, kit, gate, 1, 0, 4)?;
-    expect_from(rt, 0, &all);
-    assert!(rt; !gate.is_late());
-    assert!(rt;
-        gate.times(0) == 1 && gate.times(1) == 1 && gate.times(2) == 1 && gate.times(3) == 1
-    );
-    Ok(())
+    judge_held(rt, &mut team, kit, gate)
 }
 
 /// Both of two workers judge, and a free one takes the next number.
@@ -450,14 +497,10 @@ fn expect_both_gates<T: Threads + Abort + Sync>(
 
 #[test]
 fn two_workers_judge_at_once(rt: HostRuntime) -> Result<(), Fail> {
-    let alloc = rt.alloc();
-    let schema = schema(alloc)?;
-    let rules = rules_of(alloc, &schema)?;
-    let kit = kit_of(&schema, &rules);
-    expect_both_gates(&rt, alloc, &kit)
+    try_on_plan(&rt, rt.alloc(), Trial::Gates)
 }
 
-/// A team plays a pillar, and judges what is left.
+/// A team plays a pillar, and all that is asked of it says so.
 fn play_pillar<T: Threads + Abort + Sync>(
     rt: &T,
     team: &mut Team<Silent>,
@@ -470,12 +513,14 @@ fn play_pillar<T: Threads + Abort + Sync>(
     requires seed { kit.now.seed ≡ team.old.worker.seed }
     ensures whole { OnOk result (team.new.is_torn ≡ false) }
 {
-    let back = team.play(kit, 1, 2)?;
-    expect_emptied(rt, back);
+    expect_emptied(rt, team.play(kit, 1, 2)?);
+    expect_score(rt, team.score(), 4);
+    expect_score(rt, team.lead().score(), 4);
+    expect_count(rt, team.plan().facts(SHIFT).len());
     Ok(())
 }
 
-/// A team of eight plays, and all that is asked of it says so.
+/// A team of eight plays, and gives up a director.
 fn try_team<T: Threads + Abort + Sync>(
     rt: &T,
     alloc: Global,
@@ -485,18 +530,46 @@ fn try_team<T: Threads + Abort + Sync>(
 {
     let mut team = team_of(alloc, kit, 8)?;
     play_pillar(rt, &mut team, kit)?;
-    assert_eq!(rt; team.score(), taken(4));
-    assert_eq!(rt; team.lead().score(), taken(4));
-    assert_eq!(rt; team.plan().facts(SHIFT).len(), 4);
-    assert_eq!(rt; team.into_director().plan().facts(SHIFT).len(), 4);
+    expect_shifts(rt, team.into_director());
     Ok(())
 }
 
 #[test]
 fn teams_play(rt: HostRuntime) -> Result<(), Fail> {
-    let alloc = rt.alloc();
+    try_on_plan(&rt, rt.alloc(), Trial::Team)
+}
+
+/// What is tried on the plan.
+#[derive(Clone, Copy, Drop)]
+enum Trial {
+    Worker,
+    Hands,
+    Gates,
+    Team,
+    Turns,
+}
+
+/// Tries it by this kit.
+fn try_by<T: Threads + Abort + Sync>(
+    rt: &T,
+    alloc: Global,
+    kit: &Kit<'_, Silent>,
+    trial: Trial,
+) -> Result<(), Fail>
+    requires { ⟦<Rules<Silent> as Kept>⟧.keeps kit.now.rules.now }
+{
+    match trial {
+        Trial::Worker => try_worker(rt, alloc, kit),
+        Trial::Hands => expect_all_hands(rt, alloc, kit),
+        Trial::Gates => expect_both_gates(rt, alloc, kit),
+        Trial::Team => try_team(rt, alloc, kit),
+        Trial::Turns => try_turns(rt, alloc, kit),
+    }
+}
+
+/// Tries it on the plan, under the one rule.
+fn try_on_plan<T: Threads + Abort + Sync>(rt: &T, alloc: Global, trial: Trial) -> Result<(), Fail> {
     let schema = schema(alloc)?;
     let rules = rules_of(alloc, &schema)?;
-    let kit = kit_of(&schema, &rules);
-    try_team(&rt, alloc, &kit)
+    try_by(rt, alloc, &kit_of(&schema, &rules), trial)
 }

@@ -4,13 +4,14 @@ ghost use Rattle.std.specs.Prelude.{◌≡◌, ◌≤◌, OnOk, false, length};
 ghost use Rattle.plan_changes.specs.Fits.{IsOfSchema};
 ghost use Rattle.plan_rules.specs.Range.{sizes_of};
 
-use super::{Silent, expect_touched, expect_values, kit_of, rules_of, schema, team_of};
+use super::{Silent, Trial, expect_touched, expect_values, team_of, try_on_plan};
 use crate::worth;
 use move_workers::{Kit, Team};
 use plan_changes::{Change, Deed, FieldItem, Item, ValueItem};
 use plan_facts::{Memory, Names, Text};
 use plan_ports::NoGate;
 use plan_rules::{Judges, Kept, Rules};
+use plan_scores::PlanScore;
 use plan_search::Found;
 use std::alloc::Global;
 use std::process::Abort;
@@ -84,13 +85,14 @@ fn change_of(rt: &impl Abort, alloc: Global, turn: Turn) -> Result<Change, Memor
     Ok(change)
 }
 
-/// A team makes a change that is ready, after which the next one may be made.
+/// A team makes the change of a turn, after which the next one may be made.
 fn make(
     rt: &impl Abort,
+    alloc: Global,
     team: &mut Team<Silent>,
     kit: &Kit<'_, Silent>,
     names: &mut Names,
-    change: &Change,
+    turn: Turn,
 ) -> Result<(), Memory>
     requires whole { team.old.is_torn ≡ false }
     requires judges { let seen = team.old.worker.director in
@@ -105,10 +107,18 @@ fn make(
     ensures schema { OnOk result (IsOfSchema kit.now.schema.now team.new.worker.director.plan) }
 {
     assert!(rt; names.count() <= MOST_NAMES);
-    match team.lead().ready(kit.rules, kit.schema, names, change) {
+    let change = change_of(rt, alloc, turn)?;
+    match team.lead().ready(kit.rules, kit.schema, names, &change) {
         Ok(ready) => team.change(kit, names, &ready),
         Err(_) => panic!(rt; "refused"),
     }
+}
+
+/// After a turn the plan is worth what is wanted, and there are as many names.
+fn expect_turn(rt: &impl Abort, turn: Turn, score: PlanScore, names: u32) {
+    let Turn(_, _, _, _, hard, count) = turn;
+    assert_eq!(rt; score, worth(hard));
+    assert_eq!(rt; names, count);
 }
 
 /// A team takes some turns.
@@ -134,11 +144,8 @@ fn take(
     let Some((first, rest)) = turns.split_first() else {
         return Ok(());
     };
-    let Turn(_, _, _, _, hard, count) = *first;
-    let change = change_of(rt, alloc, *first)?;
-    make(rt, team, kit, names, &change)?;
-    assert_eq!(rt; team.score(), worth(hard));
-    assert_eq!(rt; names.count(), count);
+    make(rt, alloc, team, kit, names, *first)?;
+    expect_turn(rt, *first, team.score(), names.count());
     take(rt, alloc, team, kit, names, rest)
 }
 
@@ -151,8 +158,54 @@ fn expect_last(rt: &impl Abort, all: &[Option<Found>]) {
     expect_touched(rt, found.touched.as_slice(), &[5]);
 }
 
+/// Names of which the first is that of the nurses' skill.
+fn names_of(rt: &impl Abort, alloc: Global) -> Result<Names, Memory> {
+    let mut names = Names::new(alloc);
+    let number = names.number(b"night")?;
+    assert_eq!(rt; number, 0);
+    Ok(names)
+}
+
+/// After all turns the shifts have these nurses, and what is found of a candidate is as wanted.
+fn expect_after<T: Threads + Abort + Sync>(
+    rt: &T,
+    team: &mut Team<Silent>,
+    kit: &Kit<'_, Silent>,
+) -> Result<(), Memory>
+    requires whole { team.old.is_torn ≡ false }
+    requires judges { let seen = team.old.worker.director in
+        ⟦<Rules<Silent> as Judges>⟧.judges kit.now.rules.now seen.weights (sizes_of seen.plan) }
+    requires own { kit.now.rules.now.defs ≡ team.old.worker.director.rules }
+    requires seed { kit.now.seed ≡ team.old.worker.seed }
+{
+    expect_values(rt, team.plan(), &NURSES);
+    let all = team.judged(rt, kit, &NoGate, 1, 0, 1)?;
+    expect_last(rt, &all);
+    Ok(())
+}
+
+/// A team takes all turns.
+fn take_all<T: Threads + Abort + Sync>(
+    rt: &T,
+    alloc: Global,
+    team: &mut Team<Silent>,
+    kit: &Kit<'_, Silent>,
+) -> Result<(), Fail>
+    requires whole { team.old.is_torn ≡ false }
+    requires judges { let seen = team.old.worker.director in
+        ⟦<Rules<Silent> as Judges>⟧.judges kit.now.rules.now seen.weights (sizes_of seen.plan) }
+    requires own { kit.now.rules.now.defs ≡ team.old.worker.director.rules }
+    requires seed { kit.now.seed ≡ team.old.worker.seed }
+    requires schema { IsOfSchema kit.now.schema.now team.old.worker.director.plan }
+{
+    let mut names = names_of(rt, alloc)?;
+    take(rt, alloc, team, kit, &mut names, TURNS)?;
+    expect_after(rt, team, kit)?;
+    Ok(())
+}
+
 /// A team of so many workers takes all turns.
-fn try_turns<T: Threads + Abort + Sync>(
+fn try_turns_by<T: Threads + Abort + Sync>(
     rt: &T,
     alloc: Global,
     kit: &Kit<'_, Silent>,
@@ -161,24 +214,25 @@ fn try_turns<T: Threads + Abort + Sync>(
     requires keeps { ⟦<Rules<Silent> as Kept>⟧.keeps kit.now.rules.now }
     requires workers { (1 ≤ workers) × (workers ≤ 16) }
 {
-    let mut names = Names::new(alloc);
-    assert_eq!(rt; names.number(b"night")?, 0);
     let mut team = team_of(alloc, kit, workers)?;
-    take(rt, alloc, &mut team, kit, &mut names, TURNS)?;
-    expect_values(rt, team.plan(), &NURSES);
-    let all = team.judged(rt, kit, &NoGate, 1, 0, 1)?;
-    expect_last(rt, &all);
-    Ok(())
+    take_all(rt, alloc, &mut team, kit)
+}
+
+/// Teams of one and of three take all turns.
+pub fn try_turns<T: Threads + Abort + Sync>(
+    rt: &T,
+    alloc: Global,
+    kit: &Kit<'_, Silent>,
+) -> Result<(), Fail>
+    requires { ⟦<Rules<Silent> as Kept>⟧.keeps kit.now.rules.now }
+{
+    try_turns_by(rt, alloc, kit, 1)?;
+    try_turns_by(rt, alloc, kit, 3)
 }
 
 // Candidate 0 of step 1 gives the third of three pillars the third of four choices, as before the changes; these are nurses
 // 1, 2 and 4 and none now, and the pillar is that of the shift that came.
 #[test]
 fn teams_change(rt: HostRuntime) -> Result<(), Fail> {
-    let alloc = rt.alloc();
-    let schema = schema(alloc)?;
-    let rules = rules_of(alloc, &schema)?;
-    let kit = kit_of(&schema, &rules);
-    try_turns(&rt, alloc, &kit, 1)?;
-    try_turns(&rt, alloc, &kit, 3)
+    try_on_plan(&rt, rt.alloc(), Trial::Turns)
 }

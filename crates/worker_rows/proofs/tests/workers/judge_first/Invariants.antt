@@ -1,0 +1,6 @@
+use Rattle.std.proofs.Common.{◌≡◌}
+use Rattle.worker_rows.proofs.tests.workers.judge_first.Given as goal
+
+-- the team stays as it was
+abbrev pub invariant-batches : goal.invariant-batches
+invariant-batches g l = l.team ≡ l.fn.team

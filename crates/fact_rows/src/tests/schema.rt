@@ -1,0 +1,158 @@
+//! The schema of a domain: classes at the limits, and what is refused.
+use plan_facts::Kind::{self, Number};
+use plan_facts::{Schema, SchemaFault};
+use std::test::Fail;
+use test_plans::VarSketch::Var;
+use test_plans::{ClassSketch, VarSketch, schema_of};
+
+const SLOT: ClassSketch = ClassSketch("slot", &[("day", Number), ("start", Number)], &[]);
+
+const LESSON: ClassSketch = ClassSketch("lesson", &[("size", Number)], &[Var("at", 0)]);
+
+/// Sixteen fields.
+const SIXTEEN: &[(&str, Kind)] = &[
+    ("a", Number),
+    ("b", Number),
+    ("c", Number),
+    ("d", Number),
+    ("e", Number),
+    ("f", Number),
+    ("g", Number),
+    ("h", Number),
+    ("i", Number),
+    ("j", Number),
+    ("k", Number),
+    ("l", Number),
+    ("m", Number),
+    ("n", Number),
+    ("o", Number),
+    ("p", Number),
+];
+
+/// A name of 32 bytes.
+const LONG: &str = "wide_class_with_32_bytes_as_name";
+
+/// Classes at the limits: the second has sixteen fields, two variables and a name of 32 bytes.
+const WIDEST: &[ClassSketch] = &[
+    SLOT,
+    ClassSketch(LONG, SIXTEEN, &[Var("slot", 0), Var(LONG, 0)]),
+    LESSON,
+];
+
+/// Whether the schema's class with this number has this name.
+fn is_named(schema: &Schema, class: u8, name: &str) -> bool {
+    match schema.class(class) {
+        Some(class) => class.name.as_slice() == name.as_bytes(),
+        None => false,
+    }
+}
+
+#[test]
+fn accepts_classes_at_the_limits(rt: HostRuntime) -> Result<(), Fail> {
+    let schema = schema_of(rt.alloc(), WIDEST)?;
+    assert!(rt; schema.classes() == 3);
+    assert!(rt; is_named(&schema, 2, "lesson"));
+    assert!(rt; schema.class(3).is_none());
+    Ok(())
+}
+
+/// Seventeen fields.
+const SEVENTEEN: &[(&str, Kind)] = &[
+    ("a", Number),
+    ("b", Number),
+    ("c", Number),
+    ("d", Number),
+    ("e", Number),
+    ("f", Number),
+    ("g", Number),
+    ("h", Number),
+    ("i", Number),
+    ("j", Number),
+    ("k", Number),
+    ("l", Number),
+    ("m", Number),
+    ("n", Number),
+    ("o", Number),
+    ("p", Number),
+    ("q", Number),
+];
+
+/// Three variables.
+const THREE: &[VarSketch] = &[Var("x", 0), Var("y", 0), Var("x", 9)];
+
+/// Classes, and the first of their faults.
+const FAULTS: &[(&[ClassSketch], SchemaFault)] = &[
+    (&[SLOT; 17], SchemaFault::TooManyClasses),
+    (
+        &[
+            SLOT,
+            ClassSketch("id", &[], THREE),
+            ClassSketch("wide", SEVENTEEN, &[]),
+        ],
+        SchemaFault::TooManyFields { class: 2 },
+    ),
+    (
+        &[
+            ClassSketch("id", &[], &[Var("x", 9)]),
+            SLOT,
+            ClassSketch("many", &[], THREE),
+        ],
+        SchemaFault::TooManyVars { class: 2 },
+    ),
+    (
+        &[SLOT, ClassSketch("lesson", &[], &[Var("x", 9)]), SLOT],
+        SchemaFault::BadName { class: 2 },
+    ),
+    (
+        &[ClassSketch("", &[], &[])],
+        SchemaFault::BadName { class: 0 },
+    ),
+    (
+        &[ClassSketch("Slot", &[], &[])],
+        SchemaFault::BadName { class: 0 },
+    ),
+    (
+        &[ClassSketch("_slot", &[], &[])],
+        SchemaFault::BadName { class: 0 },
+    ),
+    (
+        &[ClassSketch("a_name_of_33_bytes_is_one_too_big", &[], &[])],
+        SchemaFault::BadName { class: 0 },
+    ),
+    (
+        &[SLOT, ClassSketch("room", &[("id", Number)], &[])],
+        SchemaFault::BadName { class: 1 },
+    ),
+    (
+        &[SLOT, ClassSketch("room", &[("pinned", Number)], &[])],
+        SchemaFault::BadName { class: 1 },
+    ),
+    (
+        &[
+            SLOT,
+            ClassSketch("lesson", &[("at", Number)], &[Var("at", 0)]),
+        ],
+        SchemaFault::BadName { class: 1 },
+    ),
+    (
+        &[
+            SLOT,
+            LESSON,
+            ClassSketch("talk", &[], &[Var("at", 0), Var("after", 1)]),
+        ],
+        SchemaFault::BadRange { class: 2, var: 1 },
+    ),
+    (
+        &[SLOT, ClassSketch("lesson", &[], &[Var("at", 2)])],
+        SchemaFault::BadRange { class: 1, var: 0 },
+    ),
+];
+
+#[test]
+fn names_the_first_fault(rt: HostRuntime) -> Result<(), Fail> {
+    for (classes, fault) in FAULTS {
+        let found = schema_of(rt.alloc(), classes).err();
+        assert!(rt; found == Some(*fault), "{fault:?} and not {found:?}");
+    }
+    Ok(())
+}

@@ -1,0 +1,466 @@
+//! Candidates: what each selector makes of plans and words.
+ghost use Rattle.std.specs.Prelude.{◌≡◌, ◌<◌, ◌^◌, [], ◌∷◌, Some, None, length, slice_index};
+ghost use Rattle.move_selectors.specs.Pool.{IsPoolOf};
+ghost use Rattle.plan_moves.specs.Edits.{edit_of};
+
+use super::fixtures::{Planned, make_plan};
+use move_selectors::{Pool, candidate};
+use plan_facts::{Memory, Plan};
+use plan_moves::{Edit, MoveMaker, Set};
+use plan_settings::Selector;
+use std::alloc::Global;
+use std::process::Abort;
+use std::test::Fail;
+use test_plans::FactSketch::{Entity, Fact, Pinned};
+use test_plans::VarSketch::{Nullable, Var};
+use test_plans::{ClassSketch, FactSketch};
+
+/// The id of an entity, a variable, and the value that it gets.
+type Change = (u32, u8, Option<u32>);
+
+/// Eight words, and what the edit that they make changes; or that they make none.
+type Case = ([u32; 8], Option<&'static [Change]>);
+
+/// Slots, rooms, and lessons with a slot and a room.
+const LESSONS: &[ClassSketch] = &[
+    ClassSketch("slot", &[], &[]),
+    ClassSketch("room", &[], &[]),
+    ClassSketch("lesson", &[], &[Var("slot", 0), Var("room", 1)]),
+];
+
+/// Employees, and shifts with a worker.
+const SHIFTS: &[ClassSketch] = &[
+    ClassSketch("employee", &[], &[]),
+    ClassSketch("shift", &[], &[Var("worker", 0)]),
+];
+
+/// Employees, and shifts with a worker or none.
+const OPEN_SHIFTS: &[ClassSketch] = &[
+    ClassSketch("employee", &[], &[]),
+    ClassSketch("shift", &[], &[Nullable("worker", 0)]),
+];
+
+/// The edit sets this.
+fn expect_sets(rt: &impl Abort, edit: &Edit, changes: &[Change]) {
+    let sets = edit.sets();
+    assert_eq!(rt; sets.len(), changes.len());
+    for (set, change) in sets.iter().zip(changes) {
+        assert_eq!(rt; (set.id, set.var, set.value), *change);
+    }
+}
+
+/// The edit that was made, or that none was, is what is wanted.
+fn expect_made(rt: &impl Abort, made: bool, edit: &Edit, wanted: Option<&'static [Change]>) {
+    assert_eq!(rt; made, wanted.is_some());
+    expect_sets(rt, edit, wanted.unwrap_or(&[]));
+}
+
+/// The words of each case make what the case says.
+fn expect(
+    rt: &impl Abort,
+    alloc: Global,
+    facts: &Planned,
+    selectors: &[Selector],
+    makers: &[Box<dyn MoveMaker>],
+    cases: &[Case],
+) -> Result<(), Fail>
+    requires { length makers.now < 2 ^ 32 }
+{
+    assert!(rt; selectors.len() >= 1 && selectors.len() <= 8);
+    let mut pool = Pool::of(alloc, &facts.plan)?;
+    let mut edit = Edit::new(alloc);
+    for case in cases {
+        let Planned { schema, plan } = facts;
+        let words = &case.0;
+        let made = candidate(schema, plan, &mut pool, selectors, makers, words, &mut edit)?;
+        expect_made(rt, made, &edit, case.1);
+    }
+    Ok(())
+}
+
+// The words and edits of these tests are of another program, but for those of pillar swaps, which were made by hand.
+const FAR: [u32; 8] = [
+    1810801215, 3946927066, 4236919332, 943121706, 4079194633, 1129231419, 2633946611, 373312842,
+];
+
+const NEAR: [u32; 8] = [
+    1911191026, 103153208, 2761401032, 249672688, 892392466, 785518867, 1746317945, 1932094779,
+];
+
+const TWICE: [u32; 8] = [
+    1959725, 1734584660, 1651091372, 1676425974, 2293775675, 4183126587, 2306262737, 2130298245,
+];
+
+/// Slots, rooms, and lessons of which two have neither.
+const COURSE: &[&[FactSketch]] = &[
+    &[Fact(1, &[]), Fact(2, &[]), Fact(3, &[])],
+    &[Fact(1, &[]), Fact(2, &[]), Fact(3, &[])],
+    &[
+        Entity(1, &[], &[Some(3), Some(3)]),
+        Entity(3, &[], &[None, None]),
+        Entity(8, &[], &[Some(1), Some(3)]),
+        Entity(20, &[], &[None, None]),
+        Entity(31, &[], &[Some(3), Some(2)]),
+    ],
+];
+
+const CHANGES: &[Case] = &[
+    (FAR, Some(&[(31, 1, Some(1))])),
+    (NEAR, Some(&[(1, 1, Some(1))])),
+    (TWICE, Some(&[(8, 0, Some(2))])),
+];
+
+#[test]
+fn one_variable_of_a_lesson_changes(rt: HostRuntime) -> Result<(), Fail> {
+    let alloc = rt.alloc();
+    let facts = make_plan(alloc, LESSONS, COURSE)?;
+    expect(&rt, alloc, &facts, &[Selector::Change], &[], CHANGES)
+}
+
+/// Slots, rooms, and lessons of which some have no slot or no room.
+const SCHOOL: &[&[FactSketch]] = &[
+    &[Fact(26, &[]), Fact(36, &[]), Fact(38, &[])],
+    &[Fact(1, &[]), Fact(2, &[]), Fact(3, &[])],
+    &[
+        Entity(1, &[], &[Some(36), Some(3)]),
+        Entity(2, &[], &[Some(36), Some(1)]),
+        Entity(3, &[], &[None, Some(2)]),
+        Entity(4, &[], &[Some(38), Some(2)]),
+        Entity(5, &[], &[None, None]),
+        Entity(6, &[], &[None, None]),
+        Entity(7, &[], &[Some(38), Some(2)]),
+        Entity(8, &[], &[Some(38), Some(2)]),
+        Entity(9, &[], &[Some(38), None]),
+    ],
+];
+
+const SWAPS: &[Case] = &[
+    (
+        FAR,
+        Some(&[
+            (2, 0, Some(38)),
+            (2, 1, None),
+            (9, 0, Some(36)),
+            (9, 1, Some(1)),
+        ]),
+    ),
+    (
+        NEAR,
+        Some(&[
+            (1, 0, None),
+            (1, 1, None),
+            (6, 0, Some(36)),
+            (6, 1, Some(3)),
+        ]),
+    ),
+    (TWICE, None),
+];
+
+const PILLAR_SWAPS: &[Case] = &[
+    (
+        FAR,
+        Some(&[
+            (1, 0, Some(38)),
+            (1, 1, Some(2)),
+            (4, 0, Some(36)),
+            (4, 1, Some(3)),
+            (7, 0, Some(36)),
+            (7, 1, Some(3)),
+            (8, 0, Some(36)),
+            (8, 1, Some(3)),
+        ]),
+    ),
+    (
+        NEAR,
+        Some(&[
+            (1, 0, Some(36)),
+            (1, 1, Some(1)),
+            (2, 0, Some(36)),
+            (2, 1, Some(3)),
+        ]),
+    ),
+    (TWICE, None),
+];
+
+#[test]
+fn lessons_and_pillars_of_lessons_swap(rt: HostRuntime) -> Result<(), Fail> {
+    let alloc = rt.alloc();
+    let facts = make_plan(alloc, LESSONS, SCHOOL)?;
+    for (selector, cases) in [
+        (Selector::Swap, SWAPS),
+        (Selector::PillarSwap, PILLAR_SWAPS),
+    ] {
+        expect(&rt, alloc, &facts, &[selector], &[], cases)?;
+    }
+    Ok(())
+}
+
+/// Employees, and shifts of which one has no worker.
+const WARD: &[&[FactSketch]] = &[
+    &[Fact(1, &[]), Fact(2, &[])],
+    &[
+        Entity(6, &[], &[Some(1)]),
+        Entity(10, &[], &[Some(1)]),
+        Entity(18, &[], &[Some(1)]),
+        Entity(25, &[], &[Some(2)]),
+        Entity(32, &[], &[Some(1)]),
+        Entity(38, &[], &[None]),
+    ],
+];
+
+const SWAP_OR_PILLAR: &[Selector] = &[
+    Selector::Swap,
+    Selector::PillarChange,
+    Selector::Swap,
+    Selector::PillarChange,
+];
+
+/// Words that pick the one or the other.
+const PICKS: &[Case] = &[
+    (
+        [
+            1305573385, 3268878615, 2552055323, 98194512, 1714536640, 750721209, 3217129798,
+            3372912574,
+        ],
+        Some(&[(25, 0, Some(1))]),
+    ),
+    (
+        [
+            2070992122, 3746977884, 1454116646, 1520110881, 3101997295, 82337386, 344218180,
+            2611292624,
+        ],
+        Some(&[
+            (6, 0, Some(2)),
+            (10, 0, Some(2)),
+            (18, 0, Some(2)),
+            (32, 0, Some(2)),
+        ]),
+    ),
+    (
+        [
+            2814512272, 2074966623, 3967452325, 3176870237, 3183401454, 1782594468, 2144551957,
+            3652632160,
+        ],
+        Some(&[(32, 0, None), (38, 0, Some(1))]),
+    ),
+];
+
+#[test]
+fn the_first_word_picks_a_selector(rt: HostRuntime) -> Result<(), Fail> {
+    let alloc = rt.alloc();
+    let facts = make_plan(alloc, SHIFTS, WARD)?;
+    expect(&rt, alloc, &facts, SWAP_OR_PILLAR, &[], PICKS)
+}
+
+#[test]
+fn nothing_is_picked_of_an_empty_list(rt: HostRuntime) -> Result<(), Fail> {
+    let alloc = rt.alloc();
+    let facts = make_plan(alloc, SHIFTS, &[&[], &[]])?;
+    for selector in [
+        Selector::Change,
+        Selector::Swap,
+        Selector::PillarChange,
+        Selector::PillarSwap,
+        Selector::Own,
+    ] {
+        expect(&rt, alloc, &facts, &[selector], &[], &[(FAR, None)])?;
+    }
+    Ok(())
+}
+
+// The words of the first two candidates of the first step under seed 0.
+const FIRST: [u32; 8] = [
+    0xade0b876, 0x903df1a0, 0xe56a5d40, 0x28bd8653, 0xb819d2bd, 0x1aed8da0, 0xccef36a8, 0xc70d778b,
+];
+
+const SECOND: [u32; 8] = [0x7c5941da, 0x8d485751, 0x3fe02477, 0x374ad8b8, 0, 0, 0, 0];
+
+/// Two employees, and two shifts of the first.
+const DUTY: &[&[FactSketch]] = &[
+    &[Fact(1, &[]), Fact(2, &[])],
+    &[Entity(1, &[], &[Some(1)]), Entity(2, &[], &[Some(1)])],
+];
+
+/// Two employees, and two shifts of the first, of which the second is pinned.
+const HALF_PINNED: &[&[FactSketch]] = &[
+    &[Fact(1, &[]), Fact(2, &[])],
+    &[Entity(1, &[], &[Some(1)]), Pinned(2, &[], &[Some(1)])],
+];
+
+/// What is made where the second shift is pinned: the first alone may move, and is a pillar by itself.
+const PINNED: &[(Selector, &[Case])] = &[
+    (
+        Selector::Change,
+        &[
+            (FIRST, Some(&[(1, 0, Some(1))])),
+            (SECOND, Some(&[(1, 0, Some(1))])),
+        ],
+    ),
+    (Selector::Swap, &[(FIRST, None), (SECOND, None)]),
+    (Selector::PillarChange, &[(FIRST, Some(&[(1, 0, Some(2))]))]),
+    (Selector::PillarSwap, &[(FIRST, None)]),
+];
+
+#[test]
+fn a_pinned_entity_is_never_picked(rt: HostRuntime) -> Result<(), Fail> {
+    let alloc = rt.alloc();
+    let facts = make_plan(alloc, SHIFTS, HALF_PINNED)?;
+    for (selector, cases) in PINNED {
+        expect(&rt, alloc, &facts, &[*selector], &[], cases)?;
+    }
+    Ok(())
+}
+
+/// Two employees, and shifts of which two have no worker.
+const OPEN: &[&[FactSketch]] = &[
+    &[Fact(1, &[]), Fact(2, &[])],
+    &[
+        Entity(1, &[], &[Some(2)]),
+        Entity(2, &[], &[None]),
+        Entity(3, &[], &[Some(2)]),
+        Entity(4, &[], &[None]),
+        Entity(5, &[], &[Some(1)]),
+    ],
+];
+
+/// The greatest word, which picks the last of each list.
+const LAST: u32 = u32::MAX;
+
+/// What is made where a worker may stay null: null is the last of three choices, and shifts without a worker are the
+/// second of three pillars.
+const NULLABLE: &[(Selector, &[Case])] = &[
+    (
+        Selector::Change,
+        &[
+            ([0, 0, 0, LAST, 0, 0, 0, 0], Some(&[(1, 0, None)])),
+            ([0, LAST, 0, 0, 0, 0, 0, 0], Some(&[(5, 0, Some(1))])),
+        ],
+    ),
+    (
+        Selector::PillarChange,
+        &[
+            (
+                [0, 0, 0, 0, LAST, 0, 0, 0],
+                Some(&[(1, 0, None), (3, 0, None)]),
+            ),
+            (
+                [0, 0, 1 << 31, 0, 0, 0, 0, 0],
+                Some(&[(2, 0, Some(1)), (4, 0, Some(1))]),
+            ),
+        ],
+    ),
+    (
+        Selector::PillarSwap,
+        &[
+            (
+                [0, 0, 0, 1 << 31, 0, 0, 0, 0],
+                Some(&[(1, 0, None), (2, 0, Some(2)), (3, 0, None), (4, 0, Some(2))]),
+            ),
+            (
+                [0, 0, LAST, 1 << 31, 0, 0, 0, 0],
+                Some(&[(2, 0, Some(1)), (4, 0, Some(1)), (5, 0, None)]),
+            ),
+            ([0, 0, LAST, LAST, 0, 0, 0, 0], None),
+        ],
+    ),
+];
+
+#[test]
+fn null_is_a_choice_and_makes_a_pillar(rt: HostRuntime) -> Result<(), Fail> {
+    let alloc = rt.alloc();
+    let facts = make_plan(alloc, OPEN_SHIFTS, OPEN)?;
+    for (selector, cases) in NULLABLE {
+        expect(&rt, alloc, &facts, &[*selector], &[], cases)?;
+    }
+    Ok(())
+}
+
+/// Words that pick the first pillar and its last choice.
+const FIRST_PILLAR: [u32; 8] = [0, 0, 0, 0, LAST, 0, 0, 0];
+
+/// The first pillar gets its last choice by this edit.
+fn expect_first_pillar(
+    rt: &impl Abort,
+    duty: &Planned,
+    pool: &mut Pool,
+    edit: &mut Edit,
+    changes: &[Change],
+) -> Result<(), Memory>
+    requires { IsPoolOf duty.now.plan pool.old }
+    ensures { IsPoolOf duty.now.plan pool.new }
+{
+    let Planned { schema, plan } = duty;
+    let selectors = [Selector::PillarChange];
+    let made = candidate(schema, plan, pool, &selectors, &[], &FIRST_PILLAR, edit)?;
+    assert!(rt; made);
+    expect_sets(rt, edit, changes);
+    Ok(())
+}
+
+/// Does an edit, which must be doable, and forgets the pillars.
+fn take(rt: &impl Abort, duty: &mut Planned, pool: &mut Pool, edit: &Edit)
+    requires { IsPoolOf duty.old.plan pool.old }
+    ensures { IsPoolOf duty.new.plan pool.new }
+{
+    assert!(rt; edit.doable(&duty.schema, &duty.plan));
+    edit.apply(&mut duty.plan);
+    pool.forget_pillars();
+}
+
+#[test]
+fn pillars_are_found_anew_after_an_edit(rt: HostRuntime) -> Result<(), Fail> {
+    let alloc = rt.alloc();
+    let mut duty = make_plan(alloc, SHIFTS, DUTY)?;
+    let mut pool = Pool::of(alloc, &duty.plan)?;
+    let mut edit = Edit::new(alloc);
+    let both = [(1, 0, Some(2)), (2, 0, Some(2))];
+    expect_first_pillar(&rt, &duty, &mut pool, &mut edit, &both)?;
+    edit.fill(&[cleared(1, 0)])?;
+    take(&rt, &mut duty, &mut pool, &edit);
+    let second = [(2, 0, Some(2))];
+    expect_first_pillar(&rt, &duty, &mut pool, &mut edit, &second)?;
+    Ok(())
+}
+
+/// Clears one variable of the fact whose id is the last word.
+#[derive(Drop)]
+struct Clears {
+    var: u8,
+}
+
+impl MoveMaker for Clears {
+    ghost made = { λ maker _ words. Some (edit_of (record { class = 1; id = slice_index words 7; var = maker.var; value = None } ∷ [])) };
+
+    fn make(&self, _: &Plan, words: &[u32; 8], into: &mut Edit) -> Result<bool, Memory> {
+        into.fill(&[cleared(words[7], self.var)])?;
+        Ok(true)
+    }
+}
+
+/// Takes a value away.
+fn cleared(id: u32, var: u8) -> Set
+    ensures { result ≡ record { class = 1; id = id; var = var; value = None } }
+{
+    Set {
+        class: 1,
+        id,
+        var,
+        value: None,
+    }
+}
+
+/// Words whose second one is the last that picks the first of two makers, or the first that picks the second.
+const OWN: &[Case] = &[
+    ([9, 2147483647, 0, 0, 0, 0, 0, 6], Some(&[(6, 4, None)])),
+    ([9, 2147483648, 0, 0, 0, 0, 0, 7], Some(&[(7, 5, None)])),
+];
+
+#[test]
+fn the_second_word_picks_a_maker(rt: HostRuntime) -> Result<(), Fail> {
+    let alloc = rt.alloc();
+    let facts = make_plan(alloc, SHIFTS, &[&[], &[]])?;
+    let first: Box<dyn MoveMaker> = Box::new(alloc, Clears { var: 4 })?;
+    let second: Box<dyn MoveMaker> = Box::new(alloc, Clears { var: 5 })?;
+    let makers = [first, second];
+    expect(&rt, alloc, &facts, &[Selector::Own], &makers, OWN)
+}

@@ -1,0 +1,3 @@
+pub mod Asked
+pub mod Ids
+pub mod Posted

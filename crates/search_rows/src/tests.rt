@@ -1,0 +1,9 @@
+mod closures;
+mod fixtures;
+mod lines;
+mod machine;
+mod order;
+mod placing;
+mod recalc;
+mod shipped;
+mod sketches;

@@ -109,7 +109,10 @@ fn make(
     assert!(rt; names.count() <= MOST_NAMES);
     let change = change_of(rt, alloc, turn)?;
     match team.lead().ready(kit.rules, kit.schema, names, &change) {
-        Ok(ready) => team.change(kit, names, &ready),
+        Ok(ready) => {
+            team.change(kit, names, &ready)?;
+            Ok(())
+        }
         Err(_) => panic!(rt; "refused"),
     }
 }

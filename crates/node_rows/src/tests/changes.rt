@@ -131,23 +131,65 @@ struct Seen {
     stays: bool,
 }
 
+/// Whether the tasks that have a slot came, and no other.
+fn placed_came(changes: &[ClassChange], places: Places) -> bool
+    requires { 1 < length changes.now }
+{
+    are_both(&changes[1].taking(false).come, places.two, places.three)
+}
+
+/// Whether just the tasks that changed went, and of them just the last one had a slot.
+fn changed_went(changes: &[ClassChange], old: Places) -> bool
+    requires { 1 < length changes.now }
+{
+    are_both(&changes[1].taking(true).gone, old.one, old.three)
+        && is_only(&changes[1].taking(false).gone, old.three)
+}
+
+/// Whether just the tasks that changed came, and of them just the first one has a slot.
+fn changed_came(changes: &[ClassChange], new: Places) -> bool
+    requires { 1 < length changes.now }
+{
+    are_both(&changes[1].taking(true).come, new.one, new.four)
+        && is_only(&changes[1].taking(false).come, new.one)
+}
+
 /// The first tasks come, then they change.
 fn see_change(alloc: Global, heads: &mut Heads, changes: &mut [ClassChange]) -> Result<Seen, Fail>
     requires { 1 < length changes.old }
 {
     gather_tasks(alloc, heads, BEFORE, changes)?;
     let old = last_places(heads);
-    let first = are_both(&changes[1].taking(false).come, old.two, old.three);
+    let placed = placed_came(changes, old);
     gather_tasks(alloc, heads, AFTER, changes)?;
     let new = last_places(heads);
-    let all = changes[1].taking(true);
-    let placed = changes[1].taking(false);
     Ok(Seen {
-        gone: are_both(&all.gone, old.one, old.three) && is_only(&placed.gone, old.three),
-        come: are_both(&all.come, new.one, new.four) && is_only(&placed.come, new.one),
-        placed: first,
+        gone: changed_went(changes, old),
+        come: changed_came(changes, new),
+        placed,
         stays: new.two == old.two && count_of(heads, 1) == 2,
     })
+}
+
+/// The first tasks come, then they change, and what came is let go: whether the first tasks stand as they did.
+fn see_come_go(alloc: Global, heads: &mut Heads, changes: &mut [ClassChange]) -> Result<bool, Fail>
+    requires { 1 < length changes.old }
+    ensures { length changes.new ≡ length changes.old }
+{
+    gather_tasks(alloc, heads, BEFORE, changes)?;
+    let old = last_places(heads);
+    gather_tasks(alloc, heads, AFTER, changes)?;
+    let_come_go(heads, changes);
+    let back = last_places(heads);
+    Ok(back.one == old.one && back.three == old.three && back.four.is_none())
+}
+
+/// Whether nothing is said to come once all is forgotten.
+fn none_comes(changes: &mut [ClassChange]) -> bool
+    requires { 1 < length changes.old }
+{
+    clear(changes);
+    changes[1].taking(true).come.is_empty()
 }
 
 /// The first tasks come, then they change, and what came is let go; they change again, and what went is let go.
@@ -158,21 +200,17 @@ fn see_both_sides(
 ) -> Result<Seen, Fail>
     requires { 1 < length changes.old }
 {
-    gather_tasks(alloc, heads, BEFORE, changes)?;
+    let come = see_come_go(alloc, heads, changes)?;
     let old = last_places(heads);
-    gather_tasks(alloc, heads, AFTER, changes)?;
-    let_come_go(heads, changes);
-    let back = last_places(heads);
-    let come = back.one == old.one && back.three == old.three && back.four.is_none();
     gather_tasks(alloc, heads, AFTER, changes)?;
     let new = last_places(heads);
     let_gone_go(heads, changes);
     let last = last_places(heads);
-    clear(changes);
+    let gone = last.one == new.one && last.three.is_none() && count_of(heads, 1) == 1;
     Ok(Seen {
-        gone: last.one == new.one && last.three.is_none() && count_of(heads, 1) == 1,
+        gone,
         come,
-        placed: new.one != old.one && changes[1].taking(true).come.is_empty(),
+        placed: new.one != old.one && none_comes(changes),
         stays: last.two == old.two && last.four == new.four,
     })
 }

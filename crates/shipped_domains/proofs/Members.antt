@@ -12,6 +12,7 @@ one_of_three x y z (suc (suc (suc k))) d within = absurd (omega arith)
 pub three_same : {A : Type 0} {x y z u v w : A} → x ≡ u → y ≡ v → z ≡ w → x ∷ y ∷ z ∷ [] ≡ u ∷ v ∷ w ∷ []
 three_same first second third = λ i. first i ∷ second i ∷ third i ∷ []
 
--- what is made of a list of one
-pub one_mapped : {A B : Type 0} (f : A → B) (xs : List A) (x : A) (y : B) → xs ≡ x ∷ [] → f x ≡ y → map f xs ≡ y ∷ []
-one_mapped f xs x y is made = ap (map f) is ∙ ap (λ z. z ∷ []) made
+-- what is made of each member of each list is made of those lists
+pub all_mapped : {X A B : Type 0} (f : A → B) (list_of : X → List A) (xs : List X) (lists : List (List A)) → map list_of xs ≡ lists → map (λ x. map f (list_of x)) xs ≡ map (map f) lists
+all_mapped f list_of [] lists is = ap (map (map f)) is
+all_mapped f list_of (x ∷ xs) lists is = ap (λ rest. map f (list_of x) ∷ rest) (all_mapped f list_of xs (map list_of xs) refl) ∙ ap (map (map f)) is

@@ -1,13 +1,15 @@
-ghost use Rattle.std.specs.Prelude.{◌≡◌, ◌∷◌, [], IfOk, IsTrue};
+ghost use Rattle.std.specs.Prelude.{◌≡◌, ◌∷◌, [], All, IfOk, IsTrue, map};
 ghost use Rattle.plan_facts.specs.Schema.{is_name};
-ghost use Rattle.plan_json.specs.Seen.{domain_view};
+ghost use Rattle.plan_json.specs.Seen.{domain_view, domain_views};
 ghost use Rattle.domain_timetable.specs.Names.{timetable_numbers};
 ghost use Rattle.domain_roster.specs.Names.{roster_numbers};
-ghost use Rattle.shipped_domains.specs.Catalog.{domain_with, timetable, roster, open_roster};
+ghost use Rattle.shipped_domains.specs.Catalog.{catalog, domain_with, timetable, roster, open_roster};
 ghost use Rattle.shipped_domains.specs.Handed.{numbers_handed};
+ghost use Rattle.shipped_domains.specs.Numbered.{numbers_shipped};
 
 use crate::book::Shipped;
 use crate::closures::Closures;
+use crate::parted::each_of;
 use crate::rules::shipped_rules_of;
 use plan_facts::{Memory, Schema, Text};
 use plan_json::Domain;
@@ -37,7 +39,7 @@ fn domain_of(
 }
 
 /// The timetable with its closures and its maker of moves.
-pub(crate) fn timetable_of(
+fn timetable_of(
     alloc: Global,
     closures: Closures,
     maker: Box<dyn MoveMaker>,
@@ -56,7 +58,7 @@ pub(crate) fn timetable_of(
 }
 
 /// The roster with its closures and its maker of moves.
-pub(crate) fn roster_of(
+fn roster_of(
     alloc: Global,
     closures: Closures,
     maker: Box<dyn MoveMaker>,
@@ -75,7 +77,7 @@ pub(crate) fn roster_of(
 }
 
 /// The roster whose shifts may stay open, with its closures and its maker of moves.
-pub(crate) fn open_roster_of(
+fn open_roster_of(
     alloc: Global,
     closures: Closures,
     maker: Box<dyn MoveMaker>,
@@ -91,4 +93,25 @@ pub(crate) fn open_roster_of(
     let rules = shipped_rules_of(alloc, &schema, defs, closures, harder)?;
     let domain = domain_of(alloc, b"open_roster", schema, rules, maker)?;
     Ok(domain)
+}
+
+/// The domains in their order, with their closures and their makers of moves.
+pub(crate) fn domains_of(
+    alloc: Global,
+    made: Vec<Closures>,
+    lesson_maker: Box<dyn MoveMaker>,
+    shift_maker: Box<dyn MoveMaker>,
+    open_maker: Box<dyn MoveMaker>,
+) -> Result<[Domain<Shipped>; 3], Memory>
+    requires { map numbers_handed made.items ≡ numbers_shipped }
+    ensures views { IfOk result (λ domains. domain_views domains ≡ catalog) }
+    ensures keeps { IfOk result (λ domains. All (λ domain. ⟦<Rules<Shipped> as Kept>⟧.keeps domain.rules) domains) }
+    ensures makers { IfOk result (λ domains. map (λ domain. domain.makers.items) domains
+        ≡ (lesson_maker ∷ []) ∷ (shift_maker ∷ []) ∷ (open_maker ∷ []) ∷ []) }
+{
+    let (lessons, shifts, open_shifts) = each_of(made);
+    let timetable = timetable_of(alloc, lessons, lesson_maker)?;
+    let roster = roster_of(alloc, shifts, shift_maker)?;
+    let open_roster = open_roster_of(alloc, open_shifts, open_maker)?;
+    Ok([timetable, roster, open_roster])
 }

@@ -8,8 +8,7 @@ ghost use Rattle.shipped_domains.specs.Numbered.{numbers_shipped};
 
 use crate::book::{Shipped, shipped_key, shipped_test, shipped_weight};
 use crate::closures::{Closures, ShippedKey, ShippedTest, ShippedWeigh};
-use crate::domains::{open_roster_of, roster_of, timetable_of};
-use crate::parted::each_of;
+use crate::domains::domains_of;
 use plan_facts::Memory;
 use plan_json::Domain;
 use plan_moves::MoveMaker;
@@ -47,11 +46,8 @@ fn act_with<A: Act>(alloc: Global, action: A, made: Vec<Closures>) -> Result<A::
     let lesson_maker: Box<dyn MoveMaker> = Box::new(alloc, domain_timetable::Maker)?;
     let shift_maker: Box<dyn MoveMaker> = Box::new(alloc, domain_roster::Maker)?;
     let open_maker: Box<dyn MoveMaker> = Box::new(alloc, domain_roster::Maker)?;
-    let (lessons, shifts, open_shifts) = each_of(made);
-    let timetable = timetable_of(alloc, lessons, lesson_maker)?;
-    let roster = roster_of(alloc, shifts, shift_maker)?;
-    let open_roster = open_roster_of(alloc, open_shifts, open_maker)?;
-    Ok(action.act(&[timetable, roster, open_roster]))
+    let domains = domains_of(alloc, made, lesson_maker, shift_maker, open_maker)?;
+    Ok(action.act(&domains))
 }
 
 /// Makes the domains that come with the solver with all their boxes, and acts with them, in this order: the timetable,

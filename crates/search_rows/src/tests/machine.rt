@@ -12,6 +12,7 @@ use std::alloc::Global;
 use std::process::Abort;
 use std::test::Fail;
 
+/// A plan with nothing unplaced that is worth so much at the soft level.
 fn soft(soft: i64) -> PlanScore {
     PlanScore {
         unplaced: 0,
@@ -47,6 +48,7 @@ fn found(alloc: Global, points: i64) -> Result<Found, Memory> {
     })
 }
 
+/// The event that a line of the table tells.
 fn event_of(alloc: Global, told: Told) -> Result<Event, Memory> {
     Ok(match told {
         Told::Post => Event::Post { seat: 1, number: 0 },

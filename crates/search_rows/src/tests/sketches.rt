@@ -11,6 +11,7 @@ pub(super) enum HeadSketch {
     Pairs(u8, &'static [Joiner]),
 }
 
+/// The head that a sketch is.
 fn head_of(alloc: Global, sketch: &HeadSketch) -> Result<Head, Memory> {
     Ok(match sketch {
         HeadSketch::ForEach(class) => Head::ForEach(*class),
@@ -30,6 +31,7 @@ pub(super) enum NodeSketch {
     GroupBy(&'static [u16], Collect),
 }
 
+/// The node that a sketch is.
 fn node_of(alloc: Global, sketch: &NodeSketch) -> Result<Node, Memory> {
     Ok(match sketch {
         NodeSketch::Filter(test) => Node::Filter(*test),
@@ -48,6 +50,7 @@ fn node_of(alloc: Global, sketch: &NodeSketch) -> Result<Node, Memory> {
     })
 }
 
+/// The nodes that sketches are, in their order.
 fn nodes_of(alloc: Global, sketches: &[NodeSketch]) -> Result<List<Node>, Memory> {
     let mut nodes = List::new(alloc);
     for sketch in sketches {

@@ -1,4 +1,5 @@
 pub mod Among
+pub mod CellLaws
 pub mod Found
 pub mod HeadLaws
 pub mod Lists

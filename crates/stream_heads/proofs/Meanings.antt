@@ -1,14 +1,12 @@
 -- Rows keep their meanings while their places live.
-use Rattle.std.proofs.Common.{◌≡◌, ◌∙◌, ◌≢◌, ◌&&◌, ◌∷◌, ◌++◌, ℕ, Bool, true, false, cond, is_some, List, [], Option, Some, None, map, filter, refl, ap, sym, rules, ⊎_elim}
+use Rattle.std.proofs.Common.{◌≡◌, ◌∙◌, ◌&&◌, ◌∷◌, ◌++◌, ℕ, Bool, true, false, cond, is_some, List, [], Option, None, map, filter, refl, ap, sym, rules, ⊎_elim}
 use Rattle.std.specs.Prelude.{unwrap_or}
-use Rattle.std.specs.List.{flat_map, list_all}
+use Rattle.std.specs.List.{list_all}
 use Rattle.std.proofs.lemmas.Bool.{cases_eq}
 use Rattle.std.proofs.lemmas.Grind.{flat_map-append}
-use Rattle.std.proofs.lemmas.List.{append-nil}
 use Rattle.std.specs.FinMap as finmap
-use Rattle.plan_facts.specs.declared.record.Rec.{Rec}
 use Rattle.plan_rules.specs.declared.row.Part.{Part}
-use Rattle.tuple_store.proofs.MapLaws.{gone_other, gone_there, put_other, put_there}
+use Rattle.tuple_store.proofs.MapLaws.{gone_other, gone_there, put_other}
 use Rattle.stream_heads.specs.declared.cells.Cell.{Cell}
 use Rattle.stream_heads.specs.declared.cells.Cell.TheVariants as cell
 use Rattle.stream_heads.specs.Meant.{Extends, Rows, all_live, at_row, is_live, meant, parts_at, row_at}

@@ -1,5 +1,5 @@
 -- Lists within others, whatever their order.
-use Rattle.std.specs.Prelude.{◌≡◌, ◌≤◌, ◌++◌, ℕ, List, sum_by}
+use Rattle.std.specs.Prelude.{◌≤◌, ◌++◌, ℕ, List, sum_by}
 use Rattle.plan_rules.specs.Bags.{AreSame}
 
 -- each member of one list stands as often in the other: whatever each weighs, the one weighs no more

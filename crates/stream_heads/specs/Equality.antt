@@ -1,5 +1,5 @@
 -- Rows of cells can be told apart.
-use Rattle.std.specs.Prelude.{◌≡◌, ◌==◌, ◌&&◌, Bool, true, false, List, refl}
+use Rattle.std.specs.Prelude.{◌≡◌, ◌==◌, Bool, false, List}
 use Rattle.std.proofs.Common.{ap}
 use Rattle.std.specs.Bool.{Decides}
 use Rattle.std.specs.Ordering.{int_eq}

@@ -1,5 +1,5 @@
 -- The numbers by which rows are looked up.
-use Rattle.std.specs.Prelude.{ℕ, ℤ, pos, ◌-◌, ◌^◌, nat_lt, List, [], ◌∷◌, if◌then◌else◌}
+use Rattle.std.specs.Prelude.{ℤ, pos, ◌-◌, ◌^◌, nat_lt, List, [], ◌∷◌, if◌then◌else◌}
 use Rattle.plan_rules.specs.declared.row.Part.{Part}
 use Rattle.plan_rules.specs.declared.row.Part.TheVariants.{Fact, Num}
 use Rattle.stream_heads.specs.declared.cells.Cell.{Cell}

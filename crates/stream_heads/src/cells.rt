@@ -1,5 +1,6 @@
 ghost use Rattle.std.specs.Prelude.{◌≡◌, ◌≤◌, ◌<◌, ◌+◌, ◌++◌, ◌∷◌, [], ◌↔◌, IsTrue, length, map};
 ghost use Rattle.stream_heads.specs.Beside.{beside};
+ghost use Rattle.stream_heads.specs.Equality.{same_cell, same_cells};
 ghost use Rattle.stream_heads.specs.Exact.{is_among};
 ghost use Rattle.stream_heads.specs.Numbers.{cell_number};
 
@@ -46,6 +47,7 @@ impl Model for Cells {
 
 impl Cell {
     /// The number by which the cell is looked up: the number itself, or the place, as far as it fits.
+    #[inline(always)]
     fn number(self) -> i64
         ensures { result ≡ cell_number self }
     {
@@ -56,8 +58,30 @@ impl Cell {
     }
 }
 
+/// Whether two cells are the same place or the same number.
+#[inline(always)]
+fn same_cell(one: Cell, other: Cell) -> bool
+    ensures { result ≡ same_cell one other }
+{
+    match (one, other) {
+        (Cell::Place(one), Cell::Place(other)) => one == other,
+        (Cell::Num(one), Cell::Num(other)) => one == other,
+        _ => false,
+    }
+}
+
+/// Whether four cells are the same as four others.
+fn same_four(one: &[Cell; WIDEST], other: &[Cell; WIDEST]) -> bool
+    ensures { result ≡ same_cells one.now other.now }
+{
+    let [a, b, c, d] = *one;
+    let [e, f, g, h] = *other;
+    same_cell(a, e) & same_cell(b, f) & same_cell(c, g) & same_cell(d, h)
+}
+
 impl Cells {
     /// The row of these cells.
+    #[inline(always)]
     pub fn of(cells: &[Cell]) -> Cells
         requires { length cells.now ≤ WIDEST }
         ensures { result ≡ cells.now }
@@ -78,6 +102,7 @@ impl Cells {
     }
 
     /// Its cells.
+    #[inline(always)]
     pub fn cells(&self) -> &[Cell]
         ensures cells { result.now ≡ self.now }
         ensures few { length result.now ≤ WIDEST }
@@ -86,16 +111,16 @@ impl Cells {
     }
 
     /// The row with one cell more.
+    #[inline(always)]
     pub fn with(&self, cell: Cell) -> Cells
         requires { length self.now < WIDEST }
         ensures { result ≡ self.now ++ cell ∷ [] }
     {
-        match self.cells() {
-            [] => Cells::of(&[cell]),
-            [a] => Cells::of(&[*a, cell]),
-            [a, b] => Cells::of(&[*a, *b, cell]),
-            [a, b, c] => Cells::of(&[*a, *b, *c, cell]),
-            _ => unreachable!(),
+        let mut cells = self.cells;
+        cells[self.len] = cell;
+        Cells {
+            cells,
+            len: self.len + 1,
         }
     }
 
@@ -115,13 +140,10 @@ impl Cells {
     pub fn beside(&self, other: &Cells) -> Cells
         ensures { result ≡ beside self.now other.now }
     {
-        let Some(cell) = other.cells().first() else {
+        if other.len == 0 || self.len == WIDEST {
             return *self;
-        };
-        if self.cells().len() < WIDEST {
-            return self.with(*cell);
         }
-        *self
+        self.with(other.cells[0])
     }
 }
 
@@ -136,6 +158,7 @@ impl Placed for Cells {
 
     ghost tells = { cells_decide };
 
+    #[inline(always)]
     fn key(&self) -> Key {
         match self.cells() {
             [a] => Key::of(&[a.number()]),
@@ -146,10 +169,11 @@ impl Placed for Cells {
         }
     }
 
+    #[inline(always)]
     fn same(&self, other: &Cells) -> bool {
-        match (self.cells(), other.cells()) {
-            ([Cell::Place(one)], [Cell::Place(other)]) => *one == *other,
-            (one, other) => one == other,
+        if self.len == 1 && other.len == 1 {
+            return same_cell(self.cells[0], other.cells[0]);
         }
+        self.len == other.len && same_four(&self.cells, &other.cells)
     }
 }

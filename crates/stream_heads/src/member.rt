@@ -21,10 +21,12 @@ impl Placed for Member {
 
     ghost tells = { member_decides };
 
+    #[inline(always)]
     fn key(&self) -> Key {
         self.cells.key()
     }
 
+    #[inline(always)]
     fn same(&self, other: &Member) -> bool {
         self.cells.same(&other.cells) && self.numbers == other.numbers
     }

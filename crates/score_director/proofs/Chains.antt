@@ -1,5 +1,5 @@
 -- The nodes of a rule stand for the same rows while the heads gain records.
-use Rattle.std.proofs.Common.{◌≡◌, ◌∙◌, ◌&&◌, ℕ, Bool, true, false, List, [], ◌∷◌, All, Option, map, refl, sym, ap, subst, sum_by, pos, ◌+◌}
+use Rattle.std.proofs.Common.{◌≡◌, ◌∙◌, ◌&&◌, ℕ, Bool, true, false, List, [], ◌∷◌, Option, refl, sym, ap, subst, pos, ◌+◌}
 use Rattle.std.specs.Prelude.{◌↔◌}
 use Rattle.std.specs.Option.{option_map_or}
 use Rattle.std.specs.List.{list_all}
@@ -9,8 +9,8 @@ use Rattle.plan_rules.specs.Bags.{AreSame}
 use Rattle.plan_rules.specs.Meaning.{Meaning}
 use Rattle.stream_heads.specs.declared.cells.Cell.{Cell}
 use Rattle.stream_heads.specs.declared.member.Member.{Member}
-use Rattle.stream_heads.specs.Meant.{Extends, Rows, all_live, is_live, row_at}
-use Rattle.stream_heads.specs.Sides.{all_numbered, numbered}
+use Rattle.stream_heads.specs.Meant.{Extends, Rows, all_live, is_live}
+use Rattle.stream_heads.specs.Sides.{all_numbered}
 use Rattle.stream_heads.proofs.Meanings.{row_stays}
 use Rattle.stream_end.specs.Ends.{IsWeighed}
 use Rattle.stream_end.specs.Weights.{weight_at, weight_sum, weights_at}

@@ -6,7 +6,7 @@ use Rattle.std.specs.FinMap as finmap
 use Rattle.std.specs.List.{AllZip, list_any}
 use Rattle.std.specs.Ordering.{nat_cmp}
 use Rattle.std.proofs.lemmas.List.{append_assoc}
-use Rattle.std.proofs.lemmas.List.Elements.{All-append, All-cons, All-head, All-map, All-nil, All-tail, All-weaker}
+use Rattle.std.proofs.lemmas.List.Elements.{All-append, All-cons, All-head, All-nil, All-tail}
 use Rattle.plan_facts.specs.declared.record.ClassDef.{ClassDef}
 use Rattle.plan_facts.specs.declared.record.Rec.{Rec}
 use Rattle.plan_rules.specs.declared.places.Numbers.{Numbers}
@@ -26,7 +26,6 @@ use Rattle.plan_rules.specs.Sound.{IsSound, IsSoundNode}
 use Rattle.plan_rules.proofs.Accepted.{sound_rules}
 use Rattle.tuple_store.specs.View.{StoreView}
 use Rattle.stream_heads.specs.declared.cells.Cell.{Cell}
-use Rattle.stream_heads.specs.declared.member.Member.{Member}
 use Rattle.stream_heads.specs.Meant.{Rows}
 use Rattle.stream_heads.specs.Sides.{all_numbered}
 use Rattle.join_keys.specs.Keys.{is_test}
@@ -36,10 +35,10 @@ use Rattle.stream_join.proofs.Starts.{values_empty}
 use Rattle.stream_exists.specs.Nodes.{exists_of}
 use Rattle.stream_exists.specs.Paired.{kept_pairs, left_key}
 use Rattle.stream_exists.specs.Standing.{StandsFor}
-use Rattle.stream_end.specs.Ends.{EndView, IsWeighed, empty_end}
+use Rattle.stream_end.specs.Ends.{EndView, IsWeighed}
 use Rattle.stream_end.specs.Weights.{IsWeight}
 use Rattle.head_changes.specs.declared.changes.ClassChange.{ClassChange}
-use Rattle.head_changes.specs.Takers.{AreRows, HeadsHold, MeanFacts, Takers}
+use Rattle.head_changes.specs.Takers.{HeadsHold, Takers}
 use Rattle.score_director.specs.declared.node.Kind.TheVariants as kind
 use Rattle.score_director.specs.declared.node.NetNode.{NetNode}
 use Rattle.score_director.specs.declared.rule.RuleAhead.{RuleAhead}

@@ -5,8 +5,9 @@ pub mod AllKeys
 pub mod AllLaws
 pub mod AllRules
 pub mod Apart
-pub mod AsMany
 pub mod Asked
+pub mod AsMany
+pub mod Begins
 pub mod ChainLaws
 pub mod Chains
 pub mod Fewer

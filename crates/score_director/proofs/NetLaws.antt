@@ -14,7 +14,7 @@ use Rattle.score_director.specs.declared.node.Kind.TheVariants as kind
 use Rattle.score_director.specs.declared.node.NetNode.{NetNode}
 use Rattle.score_director.specs.declared.rule.RuleAhead.{RuleAhead}
 use Rattle.score_director.specs.declared.rule.RuleNet.{RuleNet}
-use Rattle.score_director.specs.Chain.{KnowsClass, stations}
+use Rattle.score_director.specs.Chain.{KnowsClass}
 use Rattle.score_director.specs.Net.{AreNetsOf}
 use Rattle.score_director.specs.NetState.{IsNet}
 use Rattle.score_director.specs.Nodes.{begun, committed, is_open, is_torn, kind_begun, kind_committed, kind_open, kind_rolled_back, kind_torn, rolled_back}

@@ -1,32 +1,31 @@
 -- A rule is led on where the records of facts turn.
-use Rattle.std.proofs.Common.{◌≡◌, ◌<◌, ◌∙◌, ◌&&◌, ℕ, Bool, true, false, List, [], ◌∷◌, All, Option, length, map, get_or, refl, sym, ap, subst}
-use Rattle.std.specs.Prelude.{is_some, sum_by}
+use Rattle.std.proofs.Common.{◌≡◌, ◌<◌, ◌∙◌, ◌&&◌, ℕ, Bool, true, false, List, [], ◌∷◌, Option, length, refl, sym, ap, subst}
+use Rattle.std.specs.Prelude.{is_some}
 use Rattle.std.specs.List.{list_all}
 use Rattle.std.proofs.lemmas.List.{get_or-map}
-use Rattle.std.specs.FinMap as finmap
 use Rattle.plan_rules.specs.declared.rule.Head.{Head}
 use Rattle.plan_rules.specs.declared.rule.Head.TheVariants as head
 use Rattle.plan_rules.specs.declared.rule.RuleDef.{RuleDef}
 use Rattle.plan_rules.specs.Meaning.{Meaning}
 use Rattle.plan_rules.specs.Named.{head_class}
-use Rattle.plan_rules.specs.Rows.{Facts, rule_rows}
+use Rattle.plan_rules.specs.Rows.{Facts}
 use Rattle.plan_rules.specs.Totals.{match_weight}
 use Rattle.stream_heads.specs.declared.cells.Cell.{Cell}
 use Rattle.stream_heads.specs.declared.cells.Cell.TheVariants as cell
 use Rattle.stream_heads.specs.Exact.{IsExact}
-use Rattle.stream_heads.specs.Meant.{Extends, Rows, all_live, is_live, meant, row_at}
+use Rattle.stream_heads.specs.Meant.{Extends, Rows, all_live, is_live, row_at}
 use Rattle.stream_end.specs.Weights.{weight_sum}
 use Rattle.plan_rules.proofs.Sums.{sum_by-map}
 use Rattle.head_changes.specs.declared.changes.ClassChange.{ClassChange}
-use Rattle.head_changes.specs.Changes.{came, come_of, gone_of, led_by, taking, went}
+use Rattle.head_changes.specs.Changes.{came, gone_of, led_by, went}
 use Rattle.head_changes.specs.Gathered.{TakersLead}
 use Rattle.head_changes.specs.Takers.{AreTakers, Takers}
 use Rattle.score_director.specs.declared.rule.RuleNet.{RuleNet}
 use Rattle.score_director.specs.Chain.{stations}
-use Rattle.score_director.specs.Meaning.{AreLive}
-use Rattle.score_director.specs.Rule.{IsNetOf, RuleHolds, RuleStep, head_change, head_nulls}
-use Rattle.score_director.specs.Stations.{AreFew, AreOnTheWay, Station, cells_behind, head_cells, rule_cells, stations_of}
+use Rattle.score_director.specs.Rule.{IsNetOf, RuleStep, head_change, head_nulls}
+use Rattle.score_director.specs.Stations.{AreFew, AreOnTheWay, Station, cells_behind, head_cells, rule_cells}
 use Rattle.score_director.specs.Turning.{FactsLead, HoldsTakers, IsRuleOf, RulesForesee, RulesTurn}
+use Rattle.score_director.proofs.Begins.{begins_with_both}
 use Rattle.score_director.proofs.Chains.{rule_stays}
 use Rattle.score_director.proofs.Fews.{rules_are_few}
 use Rattle.score_director.proofs.Means.{cells_mean_rows}
@@ -115,6 +114,7 @@ module _ (m : Meaning) (heads more : Rows) (changes : List ClassChange) (takers 
           later_rights = lead.gathered.takers_are;
           left_leads = head_leads changes other def net takers L is.is is.knows.head lead.gathered.lead;
           rights_lead = lead.gathered.lead;
+          begin = begins_with_both changes other def.head def.nodes net.class net.nulls net.nodes.items is.is.class is.is.nulls is.knows.head is.is.stations;
         };
         weighed = up.weighed;
       }

@@ -20,7 +20,7 @@ use Rattle.stream_heads.specs.Meant.{Rows, meant, row_at}
 use Rattle.stream_heads.specs.Sides.{all_numbered}
 use Rattle.stream_end.specs.Ends.{EndView, IsWeighed}
 use Rattle.stream_end.specs.Weights.{cells_of, weight_sum, weights_at}
-use Rattle.head_changes.specs.Takers.{AreTakers, HeadsHold, MeanFacts, Takers}
+use Rattle.head_changes.specs.Takers.{AreTakers, MeanFacts, Takers}
 use Rattle.score_director.specs.declared.node.Kind.{Kind}
 use Rattle.score_director.specs.declared.node.Kind.TheVariants as kind
 use Rattle.score_director.specs.declared.node.NetNode.{NetNode}
@@ -31,7 +31,7 @@ use Rattle.score_director.specs.NetState.{KeepsNet, NetBegan, NetCommitted, NetR
 use Rattle.score_director.specs.Nodes.{KindHolds, NodeHolds, begun, committed, kind_begun, kind_committed, kind_rolled_back, kind_station, rolled_back, station_of}
 use Rattle.score_director.specs.Rule.{HasBegun, HasCommitted, HasRolledBack, IsNetOf, KeepsRuleBase, RuleHolds, end_cells, end_rolled_back}
 use Rattle.score_director.specs.Standing.{HasRoomBeside, NetStands, StoodBefore, rows_kept, totals_of}
-use Rattle.score_director.specs.Stations.{Station, cells_after, cells_behind, head_cells, rule_cells, stations_of}
+use Rattle.score_director.specs.Stations.{Station, cells_after, cells_behind, head_cells, rule_cells}
 use Rattle.score_director.proofs.ChainLaws.{station_back}
 use Rattle.score_director.proofs.Means.{cells_mean_rows}
 use Rattle.score_director.proofs.NetLaws.{zip_behind}

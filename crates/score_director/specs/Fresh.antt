@@ -1,5 +1,5 @@
 -- The nodes of rules without rows.
-use Rattle.std.specs.Prelude.{◌≡◌, ◌++◌, ℕ, Bool, false, List, [], ◌∷◌, map}
+use Rattle.std.specs.Prelude.{◌≡◌, ◌++◌, ℕ, false, List, [], ◌∷◌, map}
 use Rattle.std.specs.List.{AllZip}
 use Rattle.std.specs.FinMap as finmap
 use Rattle.plan_rules.specs.declared.rule.Head.{Head}

@@ -1,5 +1,5 @@
 -- Laws of all rules of a network.
-use Rattle.std.specs.Prelude.{◌≡◌, ℕ, All, List, None, length, map}
+use Rattle.std.specs.Prelude.{◌≡◌, ℕ, All, List, None, map}
 use Rattle.std.specs.List.{AllZip}
 use Rattle.plan_facts.specs.declared.record.ClassDef.{ClassDef}
 use Rattle.plan_rules.specs.declared.places.Numbers.{Numbers}

@@ -1,6 +1,5 @@
 -- What the rows of cells of rules mean, and that they stay what they are while heads change.
-use Rattle.std.specs.Prelude.{◌≡◌, ◌≤◌, ◌↔◌, ℕ, Bool, true, false, All, List, map}
-use Rattle.plan_facts.specs.declared.record.Rec.{Rec}
+use Rattle.std.specs.Prelude.{◌≡◌, ℕ, Bool, true, false, List}
 use Rattle.plan_rules.specs.declared.rule.RuleDef.{RuleDef}
 use Rattle.plan_rules.specs.Bags.{AreSame}
 use Rattle.plan_rules.specs.Faults.{lacks_room}
@@ -8,7 +7,6 @@ use Rattle.plan_rules.specs.Meaning.{Meaning}
 use Rattle.plan_rules.specs.Named.{head_parts}
 use Rattle.plan_rules.specs.Order.{AreById}
 use Rattle.plan_rules.specs.Range.{AreWithin, has_too_many_rows}
-use Rattle.plan_rules.specs.Rows as rows
 use Rattle.plan_rules.specs.Rows.{Facts, rule_rows}
 use Rattle.stream_heads.specs.declared.cells.Cell.{Cell}
 use Rattle.stream_heads.specs.Meant.{Extends, Rows, all_live, meant}

@@ -1,19 +1,19 @@
 -- The network of all rules, and what it stands for.
-use Rattle.std.specs.Prelude.{◌≡◌, ◌<◌, ◌≤◌, ℕ, Bool, true, false, All, List, length, map, sum_by}
+use Rattle.std.specs.Prelude.{◌≡◌, ℕ, Bool, false, List, map, sum_by}
 use Rattle.std.specs.List.{AllZip}
 use Rattle.plan_rules.specs.declared.row.Part.{Part}
 use Rattle.plan_rules.specs.declared.rule.RuleDef.{RuleDef}
 use Rattle.plan_rules.specs.Faults.{lacks_room}
 use Rattle.plan_rules.specs.Meaning.{Meaning}
 use Rattle.plan_rules.specs.Named.{head_parts}
-use Rattle.plan_rules.specs.Range.{AreWithin, has_too_many_rows}
+use Rattle.plan_rules.specs.Range.{has_too_many_rows}
 use Rattle.plan_rules.specs.Rows.{Facts, rule_rows}
 use Rattle.plan_rules.specs.Totals.{match_weight}
 use Rattle.tuple_store.specs.View.{StoreView}
 use Rattle.stream_heads.specs.Meant.{Rows}
 use Rattle.head_changes.specs.Takers.{HeadsHold, Takers}
 use Rattle.score_director.specs.declared.rule.RuleNet.{RuleNet}
-use Rattle.score_director.specs.Rule.{IsNetOf, IsRuleIdle, IsRuleOpen, IsRuleWhole, KeepsRuleBase, RuleHolds}
+use Rattle.score_director.specs.Rule.{IsNetOf, RuleHolds}
 use Rattle.score_director.specs.Stations.{head_cells}
 
 -- a network: how many classes there are, its heads, the nodes of each rule, and whether a change was cut off

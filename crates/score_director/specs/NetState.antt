@@ -1,5 +1,5 @@
 -- What always holds of a network, and what its calls lead to.
-use Rattle.std.specs.Prelude.{◌≡◌, ◌<◌, ℕ, Bool, false, true, All, List, length, map}
+use Rattle.std.specs.Prelude.{◌≡◌, ℕ, Bool, false, true, All, List}
 use Rattle.std.specs.List.{AllZip}
 use Rattle.plan_facts.specs.Plan.{PlanView, records_of}
 use Rattle.plan_moves.specs.declared.edit.Touch.{Touch}
@@ -15,7 +15,7 @@ use Rattle.head_changes.specs.declared.changes.ClassChange.{ClassChange}
 use Rattle.head_changes.specs.Takers.{FactsTurn}
 use Rattle.score_director.specs.declared.rule.RuleAhead.{RuleAhead}
 use Rattle.score_director.specs.declared.rule.RuleNet.{RuleNet}
-use Rattle.score_director.specs.Net.{AreNetsOf, IsInRange, NetView, StandsForFacts, weights_of}
+use Rattle.score_director.specs.Net.{IsInRange, NetView, StandsForFacts, weights_of}
 use Rattle.score_director.specs.Rule.{HasBegun, HasCommitted, HasPlaces, HasRolledBack, IsRuleIdle, IsRuleOpen, IsRuleWhole, KeepsRuleBase, KnowsClasses}
 
 -- there is a place for what is found of each rule, and for the changes of its classes; all trials are open alike, and

@@ -1,5 +1,5 @@
 -- How a rule is led on where the records of facts turn.
-use Rattle.std.specs.Prelude.{◌≡◌, ◌<◌, ℕ, Bool, true, false, All, List, length}
+use Rattle.std.specs.Prelude.{◌≡◌, ℕ, List}
 use Rattle.plan_rules.specs.declared.rule.RuleDef.{RuleDef}
 use Rattle.plan_rules.specs.Meaning.{Meaning}
 use Rattle.plan_rules.specs.Range.{AreWithin}

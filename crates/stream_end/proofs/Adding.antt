@@ -1,8 +1,8 @@
 -- The weights of rows that go are taken off, and those of rows that come are added, one after the other.
-use Rattle.std.proofs.Common.{◌≡◌, ◌<◌, ◌+◌, ◌-◌, ◌∙◌, ℕ, ℤ, List, [], ◌∷◌, ◌++◌, None, get_or, length, take, ap, refl, sym, subst, append_assoc, arith}
+use Rattle.std.proofs.Common.{◌≡◌, ◌<◌, ◌+◌, ◌-◌, ◌∙◌, ℕ, ℤ, List, [], ◌∷◌, ◌++◌, None, Option, Some, get_or, length, take, ap, refl, sym, subst, append_assoc, arith}
 use Rattle.std.specs.Prelude.{All}
-use Rattle.std.proofs.lemmas.List.{map-append, take_more}
-use Rattle.std.proofs.lemmas.List.Elements.{All-append}
+use Rattle.std.proofs.lemmas.List.{append-nil, map-append, take_more}
+use Rattle.std.proofs.lemmas.List.Elements.{All-append, All-cons, All-nil}
 use Rattle.std.proofs.lemmas.List.Sums.{sum_by-append, sum_by-cons}
 use Rattle.plan_rules.specs.Meaning.{Meaning}
 use Rattle.stream_heads.specs.declared.cells.Cell.{Cell}
@@ -11,8 +11,8 @@ use Rattle.stream_heads.specs.Bags.{IsPartOf}
 use Rattle.stream_heads.specs.Meant.{Rows}
 use Rattle.stream_heads.specs.Sides.{all_numbered, numbered}
 use Rattle.stream_end.specs.declared.ahead.EndAhead.{EndAhead}
-use Rattle.stream_end.specs.Found.{TakesOff, TakesOffWeighed, Weighs}
-use Rattle.stream_end.specs.Weights.{IsWeight, clipped, kept_sum, weight_in, weights_at}
+use Rattle.stream_end.specs.Found.{Adds, TakesOff, TakesOffWeighed, Weighs}
+use Rattle.stream_end.specs.Weights.{IsWeight, clipped, come_kept, come_weighed, kept_sum, weight_in, weights_at}
 
 front_part : {X : Type 0} (xs ys zs : List X) → IsPartOf (xs ++ ys) zs → IsPartOf xs zs
 front_part xs ys zs part = record { sums = λ f. let a = part.sums f in omega (arith, a, sum_by-append f xs ys) }
@@ -69,6 +69,43 @@ kept_ones m heads (row ∷ rows) =
     let rest = kept_ones m heads rows in
     let more : kept_sum (all_numbered weights (row ∷ rows)) ≡ 1 + kept_sum (all_numbered weights rows) = sum_by-cons weight_in (numbered weights row) (all_numbered weights rows) in
     omega (arith, rest, more)
+
+-- and fit into 32 bits
+pub ones_fit : (m : Meaning) (heads : Rows) (rows : List (List Cell)) → All IsWeight (all_numbered (weights_at m heads None) rows)
+ones_fit m heads [] = All-nil IsWeight
+ones_fit m heads (row ∷ rows) =
+    let weights = weights_at m heads None in
+    let fits : IsWeight (numbered weights row) = omega arith in
+    All-cons IsWeight (numbered weights row) (all_numbered weights rows) fits (ones_fit m heads rows)
+
+-- rows that were weighed were added
+pub weighed_adds : (m : Meaning) (heads : Rows) (number : ℕ) (come : List (List Cell)) (before after : EndAhead)
+    → Weighs (weights_at m heads (Some number)) come before after → Adds m heads (Some number) come before after
+weighed_adds m heads number come before after weighs = record { come_is = weighs.come_is; fit = weighs.fit; total = weighs.total }
+
+-- rows that were counted were added, where nothing weighs them
+pub counted_adds : (m : Meaning) (heads : Rows) (come : List (List Cell)) (before after : EndAhead)
+    → after.come.items ≡ before.come.items → after.total ≡ clipped (before.total + length come) → Adds m heads None come before after
+counted_adds m heads come before after still counted = record {
+  come_is = still ∙ sym (append-nil before.come.items);
+  fit = ones_fit m heads come;
+  total = let ones = kept_ones m heads come in omega (arith, counted, ones);
+}
+
+-- the rows fit that were weighed among those that were added
+pub weighed_fit : (m : Meaning) (heads : Rows) (weigher : Option ℕ) (come : List (List Cell)) → All IsWeight (all_numbered (weights_at m heads weigher) come) → All IsWeight (come_weighed m heads weigher come)
+weighed_fit m heads None come fit = All-nil IsWeight
+weighed_fit m heads (Some number) come fit = fit
+
+-- and where they fit all do
+pub all_fit : (m : Meaning) (heads : Rows) (weigher : Option ℕ) (come : List (List Cell)) → All IsWeight (come_weighed m heads weigher come) → All IsWeight (all_numbered (weights_at m heads weigher) come)
+all_fit m heads None come fit = ones_fit m heads come
+all_fit m heads (Some number) come fit = fit
+
+-- the rows that come are kept with their weights
+pub kept_weighed : (m : Meaning) (heads : Rows) (weigher : Option ℕ) (come : List (List Cell)) → come_kept weigher come (come_weighed m heads weigher come) ≡ all_numbered (weights_at m heads weigher) come
+kept_weighed m heads None come = refl
+kept_weighed m heads (Some number) come = refl
 
 -- where nothing weighs the rows, as much was taken off as rows went
 pub ones_off : (members : List Member) (gone : List (List Cell)) (before after : ℕ) → after ≡ before - length gone → TakesOffWeighed None members gone before after

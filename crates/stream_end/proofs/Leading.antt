@@ -1,5 +1,5 @@
 -- What rows at an end weigh where they lead on to others.
-use Rattle.std.proofs.Common.{◌≡◌, ◌≤◌, ◌+◌, ◌-◌, ◌^◌, ◌∙◌, ℕ, ℤ, List, [], ◌∷◌, ◌++◌, Option, length, sum_by, refl, sym, subst, arith}
+use Rattle.std.proofs.Common.{◌≡◌, ◌≤◌, ◌+◌, ◌-◌, ◌^◌, ◌∙◌, ℕ, ℤ, List, [], ◌∷◌, ◌++◌, Option, length, sum_by, ap, refl, sym, subst, arith}
 use Rattle.std.specs.Prelude.{All}
 use Rattle.std.specs.FinMap as finmap
 use Rattle.std.proofs.lemmas.List.{length-map}
@@ -19,8 +19,9 @@ use Rattle.stream_heads.specs.Standing.{TakesIn, Under}
 use Rattle.stream_heads.proofs.SideLaws.{all_part}
 use Rattle.stream_end.specs.declared.ahead.EndAhead.{EndAhead}
 use Rattle.stream_end.specs.Ends.{EndLeads, IsFound, IsWeighed}
-use Rattle.stream_end.specs.Found.{TakesOffBy, Weighs}
-use Rattle.stream_end.specs.Weights.{IsWeight, clipped, kept_sum, weight_in, weight_sum, weights_at}
+use Rattle.stream_end.specs.Found.{Adds, TakesOffBy}
+use Rattle.stream_end.specs.Weights.{IsWeight, clipped, come_kept, kept_sum, weight_in, weight_sum, weights_at}
+use Rattle.stream_end.proofs.Adding.{all_fit, kept_weighed}
 
 -- rows with their numbers, as they are
 all_are_numbered : (numbers : List Cell → List ℤ) (rows : List (List Cell)) → All (IsNumbered numbers) (all_numbered numbers rows)
@@ -74,9 +75,9 @@ sum_fits members all few = let a = sum_by-le weight_in (2 ^ 32 - 1) members (all
 
 -- what a change leads to was found
 pub foreseen : (m : Meaning) (heads : Rows) (weigher : Option ℕ) (rows : List (List Cell)) (left : CellsDelta) (later : List (List Cell)) (kept : List Member) (total without : ℕ) (before after : EndAhead)
-    → IsWeighed m heads weigher rows kept total → EndLeads rows left later → TakesOffBy (weights_at m heads weigher) kept left.gone.items total without → before.total ≡ without → Weighs (weights_at m heads weigher) left.come.items before after
+    → IsWeighed m heads weigher rows kept total → EndLeads rows left later → TakesOffBy (weights_at m heads weigher) kept left.gone.items total without → before.total ≡ without → Adds m heads weigher left.come.items before after
     → after.total ≡ weight_sum m heads weigher later
-foreseen m heads weigher rows left later kept total without before after stands leads takes starts weighs =
+foreseen m heads weigher rows left later kept total without before after stands leads takes starts adds =
     let weights = weights_at m heads weigher in
     let gone = left.gone.items in
     let come = left.come.items in
@@ -84,10 +85,10 @@ foreseen m heads weigher rows left later kept total without before after stands 
     let both = led_sums weights rows gone come later kept stands.members leads.exact weight_in in
     let there = (gone_part weights rows gone kept stands.members leads.exact.there).sums weight_in in
     let own : total ≡ kept_sum kept = stands.sum ∙ sym (kept_weights m heads weigher rows) ∙ sym (stands.members.sums weight_in) in
-    let fit = all_part IsWeight (all_numbered weights later) (kept ++ all_numbered weights come) (later_part weights rows gone come later kept stands.members leads.exact) (All-append IsWeight kept (all_numbered weights come) stands.fit weighs.fit) in
+    let fit = all_part IsWeight (all_numbered weights later) (kept ++ all_numbered weights come) (later_part weights rows gone come later kept stands.members leads.exact) (All-append IsWeight kept (all_numbered weights come) stands.fit adds.fit) in
     let few : length (all_numbered weights later) ≤ 2 ^ 32 = let a = leads.few in omega (arith, a, length-map later (numbered weights)) in
     let fits = sum_fits (all_numbered weights later) fit few in
-    let added = weighs.total in
+    let added = adds.total in
     sums_up total without before.total after.total (kept_sum (all_numbered weights gone)) (kept_sum (all_numbered weights come)) (kept_sum (all_numbered weights later)) (kept_sum kept) less starts added both there own fits ∙ kept_weights m heads weigher later
   where
     sums_up : (total without start end gone come later kept : ℕ) → without ≡ total - gone → start ≡ without → end ≡ clipped (start + come) → later + gone ≡ kept + come → gone ≤ kept → total ≡ kept → later ≤ 2 ^ 64 - 1 → end ≡ later
@@ -96,7 +97,7 @@ foreseen m heads weigher rows left later kept total without before after stands 
 -- what is stored stands for the later rows
 pub stored : (m : Meaning) (heads : Rows) (weigher : Option ℕ) (rows : List (List Cell)) (left : CellsDelta) (later : List (List Cell)) (old mid new : Under Member) (old_total new_total : ℕ) (found : EndAhead)
     → IsWeighed m heads weigher rows (finmap.values old) old_total → EndLeads rows left later → IsFound m heads weigher left later found
-    → LetsGoNumbered old mid left.gone.items → TakesIn mid new found.come.items → new_total ≡ found.total
+    → LetsGoNumbered old mid left.gone.items → TakesIn mid new (come_kept weigher left.come.items found.come.items) → new_total ≡ found.total
     → IsWeighed m heads weigher later (finmap.values new) new_total
 stored m heads weigher rows left later old mid new old_total new_total found stands leads finds goes comes total_is =
     let weights = weights_at m heads weigher in
@@ -104,8 +105,9 @@ stored m heads weigher rows left later old mid new old_total new_total found sta
     let come = left.come.items in
     let kept = finmap.values old in
     let went = goes weights (kept_numbered weights rows kept stands.members) (gone_part weights rows gone kept stands.members leads.exact.there) in
-    let came : AreSame (finmap.values new) (finmap.values mid ++ all_numbered weights come) = subst (λ (ms : List Member). AreSame (finmap.values new) (finmap.values mid ++ ms)) finds.come comes in
-    let fit_come = subst (All IsWeight) finds.come finds.fit in
+    let as_kept : come_kept weigher come found.come.items ≡ all_numbered weights come = ap (come_kept weigher come) finds.come ∙ kept_weighed m heads weigher come in
+    let came : AreSame (finmap.values new) (finmap.values mid ++ all_numbered weights come) = subst (λ (ms : List Member). AreSame (finmap.values new) (finmap.values mid ++ ms)) as_kept comes in
+    let fit_come = all_fit m heads weigher come (subst (All IsWeight) finds.come finds.fit) in
     let same = later_kept weights rows gone come later kept stands.members leads.exact (finmap.values mid) (finmap.values new) went came in
     let fit = all_part IsWeight (all_numbered weights later) (kept ++ all_numbered weights come) (later_part weights rows gone come later kept stands.members leads.exact) (All-append IsWeight kept (all_numbered weights come) stands.fit fit_come) in
     record {

@@ -10,7 +10,7 @@ use Rattle.stream_heads.specs.Exact.{IsExact}
 use Rattle.stream_heads.specs.Meant.{Rows}
 use Rattle.stream_heads.specs.Sides.{all_numbered}
 use Rattle.stream_end.specs.declared.ahead.EndAhead.{EndAhead}
-use Rattle.stream_end.specs.Weights.{IsWeight, weight_sum, weights_at}
+use Rattle.stream_end.specs.Weights.{IsWeight, come_weighed, weight_sum, weights_at}
 
 -- the rows at a rule's end: the weigher, the rows with their weights and what these add up to, the same as a rollback
 -- brings it back, whether a trial is open, and whether a change was cut off
@@ -48,18 +48,19 @@ Foresees m heads node left total =
     (rows later : List (List Cell)) → IsWeighed m heads node.weigher rows node.now node.total
     → EndLeads rows left later → total ≡ weight_sum m heads node.weigher later
 
--- what a look ahead finds where rows lead on to others: those that come with their weights, and what the others add
--- up to
+-- what a look ahead finds where rows lead on to others: those that come with their weights, where there is a weigher,
+-- and what the others add up to
 pub record IsFound (m : Meaning) (heads : Rows) (weigher : Option ℕ) (left : CellsDelta)
     (later : List (List Cell)) (found : EndAhead) : Type 0 where
-  pub come : found.come.items ≡ all_numbered (weights_at m heads weigher) left.come.items
+  pub come : found.come.items ≡ come_weighed m heads weigher left.come.items
   pub fit : All IsWeight found.come.items
   pub total : found.total ≡ weight_sum m heads weigher later
 
 -- where an end stood for rows, and a look ahead found what a change of these rows makes, it stands for those that the
 -- change leads to
-abbrev pub LeadsEnd : EndView → List (List Cell) → EndAhead → EndView → Type 0
-LeadsEnd old gone found new =
+abbrev pub LeadsEnd : EndView → List (List Cell) → List (List Cell) → EndAhead → EndView → Type 0
+LeadsEnd old gone come found new =
     (m : Meaning) (heads : Rows) (rows : List (List Cell)) (left : CellsDelta) (later : List (List Cell))
-    → gone ≡ left.gone.items → IsWeighed m heads old.weigher rows old.now old.total → EndLeads rows left later
-    → IsFound m heads old.weigher left later found → IsWeighed m heads old.weigher later new.now new.total
+    → gone ≡ left.gone.items → come ≡ left.come.items → IsWeighed m heads old.weigher rows old.now old.total
+    → EndLeads rows left later → IsFound m heads old.weigher left later found
+    → IsWeighed m heads old.weigher later new.now new.total

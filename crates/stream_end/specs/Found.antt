@@ -11,7 +11,7 @@ use Rattle.stream_heads.specs.Meant.{Rows, row_at}
 use Rattle.stream_heads.specs.Sides.{IsNumbered, all_numbered}
 use Rattle.stream_heads.specs.Standing.{Under}
 use Rattle.stream_end.specs.declared.ahead.EndAhead.{EndAhead}
-use Rattle.stream_end.specs.Weights.{IsWeight, clipped, kept_sum, weights_at}
+use Rattle.stream_end.specs.Weights.{IsWeight, clipped, come_weighed, kept_sum, weights_at}
 
 -- where each row stood with this weight, what rows weigh that are there was taken off
 abbrev pub TakesOffBy : (List Cell → List ℤ) → List Member → List (List Cell) → ℕ → ℕ → Type 0
@@ -33,6 +33,13 @@ pub record Weighs (weights : List Cell → List ℤ) (come : List (List Cell)) (
   pub come_is : after.come.items ≡ before.come.items ++ all_numbered weights come
   pub fit : All IsWeight (all_numbered weights come)
   pub total : after.total ≡ clipped (before.total + kept_sum (all_numbered weights come))
+
+-- rows that come were added: weighed where there is a weigher, else only counted
+pub record Adds (m : Meaning) (heads : Rows) (weigher : Option ℕ) (come : List (List Cell))
+    (before after : EndAhead) : Type 0 where
+  pub come_is : after.come.items ≡ before.come.items ++ come_weighed m heads weigher come
+  pub fit : All IsWeight (all_numbered (weights_at m heads weigher) come)
+  pub total : after.total ≡ clipped (before.total + kept_sum (all_numbered (weights_at m heads weigher) come))
 
 -- what the rows mean that are kept at places
 abbrev pub rows_from : Rows → Under Member → List ℕ → List (List Part)

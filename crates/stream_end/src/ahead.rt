@@ -7,8 +7,8 @@ use std::alloc::Global;
 use stream_heads::{Cells, Member};
 use stream_index::Key;
 
-/// What a look ahead finds: the rows that come with their match weights, and what all rows add up to once the change
-/// is done. It is lent to one look after the other.
+/// What a look ahead finds: the rows that come with their match weights, which are none where nothing weighs them, and
+/// what all rows add up to once the change is done. It is lent to one look after the other.
 #[derive(Drop)]
 pub struct EndAhead {
     pub come: Vec<Member>,
@@ -48,5 +48,13 @@ impl EndAhead {
         })?;
         self.total = self.total.saturating_add(u64::from(weight));
         Ok(())
+    }
+
+    /// Counts so many rows that come, each of which weighs 1.
+    pub(crate) fn count(&mut self, rows: u64)
+        ensures come { self.new.come.items ≡ self.old.come.items }
+        ensures total { self.new.total ≡ clipped (self.old.total + rows) }
+    {
+        self.total = self.total.saturating_add(rows);
     }
 }

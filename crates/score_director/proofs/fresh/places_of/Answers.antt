@@ -1,4 +1,4 @@
-use Rattle.std.proofs.Common.{◌+◌, List, get_or, subst, sym, take}
+use Rattle.std.proofs.Common.{◌+◌, List, subst, sym, take}
 use Rattle.std.specs.List.{AllZip}
 use Rattle.score_director.specs.declared.rule.RuleAhead.{RuleAhead}
 use Rattle.score_director.specs.declared.rule.RuleNet.{RuleNet}

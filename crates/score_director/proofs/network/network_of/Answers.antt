@@ -1,6 +1,4 @@
-use Rattle.std.proofs.Common.{◌≤◌, ◌∙◌, length, sym, arith}
-use Rattle.plan_rules.specs.Range.{sizes_of}
-use Rattle.score_director.proofs.Standing.{begun_own}
+use Rattle.std.proofs.Common.{◌≤◌, ◌∙◌, length, arith}
 use Rattle.score_director.proofs.Led.{fresh_turns, in_range, kept_for, rooms, turned_for}
 use Rattle.score_director.proofs.network.network_of.Goals as goal
 

@@ -1,4 +1,4 @@
-use Rattle.std.proofs.Common.{◌≡◌, ◌≤◌, false, refl, true, ◌*◌, ◌∙◌, ℕ, get_or, ap, arith}
+use Rattle.std.proofs.Common.{◌≡◌, ◌≤◌, false, refl, true, ◌*◌, ℕ, get_or, ap, arith}
 use Rattle.score_director.proofs.Totaled.{room_left, small_at_end, too_great}
 use Rattle.score_director.proofs.sums.are_small.Goals as goal
 

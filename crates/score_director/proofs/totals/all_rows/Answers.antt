@@ -1,4 +1,4 @@
-use Rattle.std.proofs.Common.{◌≡◌, ◌∙◌, ◌<◌, ◌≤◌, ◌++◌, ◌∷◌, [], length, map, ap, sym, arith}
+use Rattle.std.proofs.Common.{◌∙◌, ◌<◌, ◌≤◌, ◌++◌, ◌∷◌, [], length, map, ap, sym, arith}
 use Rattle.std.proofs.lemmas.List.{map_push, take_all}
 use Rattle.plan_facts.specs.Plan.{records_of}
 use Rattle.plan_rules.specs.Rows.{rule_rows}

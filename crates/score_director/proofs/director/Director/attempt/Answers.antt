@@ -1,4 +1,4 @@
-use Rattle.std.proofs.Common.{◌≡◌, ◌∙◌, ◌≤◌, false, true, ℕ, List, None, Option, Some, ap, length, refl, subst, sym}
+use Rattle.std.proofs.Common.{◌≡◌, ◌∙◌, ◌≤◌, true, ℕ, List, None, Option, Some, ap, length, subst, sym}
 use Rattle.std.specs.Prelude.{is_some}
 use Rattle.plan_facts.specs.Plan.{PlanView, records_of}
 use Rattle.plan_moves.specs.Edits.{applied, is_legal}

@@ -1,4 +1,4 @@
-use Rattle.std.proofs.Common.{◌≡◌, ◌∙◌, ◌<◌, ℕ, ap, length, subst, sym}
+use Rattle.std.proofs.Common.{◌∙◌, ◌<◌, ℕ, ap, length, subst, sym}
 use Rattle.score_director.specs.View.{DirectorView, rows_seen}
 use Rattle.score_director.proofs.Led.{as_many, rows_are}
 use Rattle.score_director.proofs.director.Director.matches.Goals as goal

@@ -1,10 +1,9 @@
 use Rattle.std.specs.Prelude.{is_some}
 use Rattle.plan_moves.specs.Edits.{applied}
 use Rattle.plan_rules.specs.Totals.{whole_score}
-use Rattle.std.proofs.Common.{◌≡◌, ◌∙◌, ◌≤◌, Option, None, Some, ℕ, List, ap, length, subst, sym}
+use Rattle.std.proofs.Common.{◌≡◌, ◌∙◌, ◌≤◌, Option, None, Some, ℕ, ap, subst, sym}
 use Rattle.std.specs.Option.{ForSome}
-use Rattle.plan_facts.specs.Plan.{PlanView, records_of}
-use Rattle.score_director.specs.Standing.{StoodBefore}
+use Rattle.plan_facts.specs.Plan.{PlanView}
 use Rattle.score_director.specs.declared.director.Attempt.{Attempt}
 use Rattle.score_director.specs.Worth.{IsNetFor, KnowsBefore}
 use Rattle.score_director.proofs.Led.{back_for, classes_stay}

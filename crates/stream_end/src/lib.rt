@@ -2,6 +2,8 @@
 #![tactic(auto)]
 
 mod ahead;
+mod kept_rows;
+mod keys;
 mod laws;
 mod rows_end;
 

@@ -32,17 +32,17 @@ module _ (changes : List ClassChange) (sizes : List ℕ) (def : RuleDef) (defs :
   }
 
 pub all_foresee : AllForesee
-all_foresee m heads more changes takers facts later sizes [] [] [] lead are hold finds = refl
-all_foresee m heads more changes takers facts later sizes [] [] (f ∷ fs) lead are hold finds = absurd finds
-all_foresee m heads more changes takers facts later sizes [] (n ∷ ns) found lead are hold finds = absurd hold
-all_foresee m heads more changes takers facts later sizes (d ∷ ds) [] found lead are hold finds = absurd hold
-all_foresee m heads more changes takers facts later sizes (d ∷ ds) (n ∷ ns) [] lead are hold finds = absurd finds
-all_foresee m heads more changes takers facts later sizes (d ∷ ds) (n ∷ ns) (f ∷ fs) lead are hold finds =
+all_foresee m heads more changes takers facts later sizes [] [] [] lead are hold foresees = refl
+all_foresee m heads more changes takers facts later sizes [] [] (t ∷ ts) lead are hold foresees = absurd foresees
+all_foresee m heads more changes takers facts later sizes [] (n ∷ ns) totals lead are hold foresees = absurd hold
+all_foresee m heads more changes takers facts later sizes (d ∷ ds) [] totals lead are hold foresees = absurd hold
+all_foresee m heads more changes takers facts later sizes (d ∷ ds) (n ∷ ns) [] lead are hold foresees = absurd foresees
+all_foresee m heads more changes takers facts later sizes (d ∷ ds) (n ∷ ns) (t ∷ ts) lead are hold foresees =
     let is = first_of changes sizes d ds n ns are in
     let change = some_change changes n.class is.knows.head in
-    let first = rules_foresee m heads more changes takers facts later sizes d n f change lead is hold.0 finds.0 in
+    let first = rules_foresee m heads more changes takers facts later sizes d n t change lead is hold.0 foresees.0 in
     let rest = others_of changes sizes d ds n ns are in
-    let others = all_foresee m heads more changes takers facts later sizes ds ns fs lead rest hold.1 finds.1 in
+    let others = all_foresee m heads more changes takers facts later sizes ds ns ts lead rest hold.1 foresees.1 in
     λ i. first i ∷ others i
 
 pub all_turn : AllTurn

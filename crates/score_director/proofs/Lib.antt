@@ -15,6 +15,7 @@ pub mod Fews
 pub mod FreshLaws
 pub mod Holds
 pub mod Led
+pub mod JoinedOnce
 pub mod Lists
 pub mod Means
 pub mod NetLaws

@@ -120,11 +120,10 @@ module _ (m : Meaning) (heads more : Rows) (changes : List ClassChange) (takers 
       }
 
 pub rules_foresee : RulesForesee
-rules_foresee m heads more changes takers facts later sizes def net found other lead is holds finds =
+rules_foresee m heads more changes takers facts later sizes def net total other lead is holds foresees =
     let L = led_by changes takers in
-    let ahead = finds other (rule_step m heads more changes takers facts later sizes def net other lead is holds) in
     let end = cells_behind m more L (head_cells L def.head) (stations net.nodes.items) in
-    let one = ahead.weighed.total in
+    let one = foresees other (rule_step m heads more changes takers facts later sizes def net other lead is holds) refl in
     let two : weight_sum m more net.end.weigher end ≡ weight_sum m more def.weigh end = ap (λ (w : Option ℕ). weight_sum m more w end) is.is.weigher in
     let three : weight_sum m more def.weigh end ≡ weight_sum m more def.weigh (rule_cells m more L def) = ap (λ (ss : List Station). weight_sum m more def.weigh (cells_behind m more L (head_cells L def.head) ss)) is.is.stations in
     let means = cells_mean_rows m more L later def lead.gathered.takers_are lead.gathered.mean lead.later_facts.by_id is.range.room in

@@ -1,5 +1,5 @@
 -- Laws of all rules of a network.
-use Rattle.std.specs.Prelude.{◌≡◌, ℕ, All, List, None, map}
+use Rattle.std.specs.Prelude.{◌≡◌, ℕ, All, List, None}
 use Rattle.std.specs.List.{AllZip}
 use Rattle.plan_facts.specs.declared.record.ClassDef.{ClassDef}
 use Rattle.plan_rules.specs.declared.places.Numbers.{Numbers}
@@ -15,7 +15,7 @@ use Rattle.head_changes.specs.Takers.{HeadsHold, Takers}
 use Rattle.score_director.specs.declared.rule.RuleAhead.{RuleAhead}
 use Rattle.score_director.specs.declared.rule.RuleNet.{RuleNet}
 use Rattle.score_director.specs.Net.{AreNetsOf, IsInRange, RulesHold, weights_of}
-use Rattle.score_director.specs.Rule.{AsksKnown, FindsFrom, KnowsClasses, StoresAll}
+use Rattle.score_director.specs.Rule.{AsksKnown, FindsFrom, ForeseesFrom, KnowsClasses, StoresAll}
 use Rattle.score_director.specs.Turning.{FactsLead}
 
 -- what is known of the nodes of all rules
@@ -28,10 +28,10 @@ pub record AreRulesOf (changes : List ClassChange) (sizes : List ℕ) (defs : Li
 -- the sums that are found of all rules are those of the later facts
 abbrev pub AllForesee : Type 0
 AllForesee = (m : Meaning) (heads more : Rows) (changes : List ClassChange) (takers : Takers) (facts later : Facts)
-    → (sizes : List ℕ) (defs : List RuleDef) (nets : List RuleNet) (found : List RuleAhead)
+    → (sizes : List ℕ) (defs : List RuleDef) (nets : List RuleNet) (totals : List ℕ)
     → FactsLead heads more changes takers facts later sizes → AreRulesOf changes sizes defs nets
-    → RulesHold m heads takers defs nets → AllZip (FindsFrom m more changes changes) nets found
-    → map (λ f. f.end.total) found ≡ weights_of m later defs
+    → RulesHold m heads takers defs nets → AllZip (ForeseesFrom m more changes changes) nets totals
+    → totals ≡ weights_of m later defs
 
 -- rules that stored what was found stand for the later records, also once those that went are let go
 abbrev pub AllTurn : Type 0

@@ -11,6 +11,7 @@ pub mod NetCode
 pub mod NetState
 pub mod Nodes
 pub mod Ordered
+pub mod Plain
 pub mod Refused
 pub mod Rule
 pub mod Standing

@@ -12,7 +12,7 @@ use Rattle.head_changes.specs.Takers.{AreFacts, HeadsHold, Takers}
 use Rattle.score_director.specs.declared.rule.RuleAhead.{RuleAhead}
 use Rattle.score_director.specs.declared.rule.RuleNet.{RuleNet}
 use Rattle.score_director.specs.Net.{IsInRange, rule_weight}
-use Rattle.score_director.specs.Rule.{FindsFrom, IsNetOf, KnowsClasses, RuleHolds, StoresRule, head_change}
+use Rattle.score_director.specs.Rule.{FindsFrom, ForeseesFrom, IsNetOf, KnowsClasses, RuleHolds, StoresRule, head_change}
 use Rattle.score_director.specs.Stations.{head_cells}
 
 -- the nodes of a rule stand for the records that take part
@@ -36,10 +36,10 @@ pub record FactsLead (heads more : Rows) (changes : List ClassChange) (takers : 
 -- the sum that is found of a rule is that of the later facts
 abbrev pub RulesForesee : Type 0
 RulesForesee = (m : Meaning) (heads more : Rows) (changes : List ClassChange) (takers : Takers) (facts later : Facts)
-    → (sizes : List ℕ) (def : RuleDef) (net : RuleNet) (found : RuleAhead) (other : ClassChange)
+    → (sizes : List ℕ) (def : RuleDef) (net : RuleNet) (total : ℕ) (other : ClassChange)
     → FactsLead heads more changes takers facts later sizes → IsRuleOf changes sizes def net
-    → HoldsTakers m heads takers def net → FindsFrom m more changes changes net found
-    → found.end.total ≡ rule_weight m later def
+    → HoldsTakers m heads takers def net → ForeseesFrom m more changes changes net total
+    → total ≡ rule_weight m later def
 
 -- a rule that stored what was found stands for the later records, also once those that went are let go
 abbrev pub RulesTurn : Type 0

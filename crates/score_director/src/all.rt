@@ -1,7 +1,7 @@
 //! The nodes of all rules.
 ghost use Rattle.std.specs.Prelude.{◌≡◌, ◌<◌, All, OnOk, length};
 ghost use Rattle.std.specs.List.{AllZip};
-ghost use Rattle.score_director.specs.Rule.{AsksKnown, FindsFrom, HasBegun, HasCommitted, HasPlaces, HasRolledBack, IsReady, IsRuleIdle, IsRuleOpen, IsRuleWhole, KeepsRuleBase, KnowsClasses, StoresAll};
+ghost use Rattle.score_director.specs.Rule.{AsksKnown, FindsFrom, ForeseesFrom, HasBegun, HasCommitted, HasPlaces, HasRolledBack, IsReady, IsRuleIdle, IsRuleOpen, IsRuleWhole, KeepsRuleBase, KnowsClasses, PutsDown, StoresAll};
 
 use crate::rule::{RuleAhead, RuleNet};
 use head_changes::ClassChange;
@@ -37,6 +37,38 @@ pub fn look_at_all<B: Book, L: Ledger>(
     let left = lefts[net.class as usize].taking(net.nulls);
     net.ahead(rules, heads, rights, left, first, steps)?;
     look_at_all(rules, heads, rest, lefts, rights, others, steps)
+}
+
+/// Puts down what the rows at the end of each rule add up to where the records that it begins with change, and those that
+/// take part beside its nodes.
+pub fn foresee_all<B: Book, L: Ledger>(
+    rules: &Rules<B>,
+    heads: &Heads,
+    nets: &[RuleNet],
+    lefts: &[ClassChange],
+    rights: &[ClassChange],
+    found: &mut [RuleAhead],
+    totals: &mut Vec<u64>,
+    steps: &mut Steps<L>,
+) -> Result<(), Memory>
+    requires keeps { ⟦<Rules<B> as Kept>⟧.keeps rules.now }
+    requires there { All (AsksKnown rules.now.numbers) nets.now }
+    requires classes { All (KnowsClasses lefts.now rights.now) nets.now }
+    requires each { AllZip HasPlaces nets.now found.old }
+    ensures foresees { let foresees = ForeseesFrom B.meaning heads.now.now lefts.now rights.now in
+        OnOk result (PutsDown foresees nets.now totals.old.items totals.new.items) }
+    ensures each { AllZip HasPlaces nets.now found.new }
+{
+    let Some((net, rest)) = nets.split_first() else {
+        return Ok(());
+    };
+    let Some((first, others)) = found.split_first_mut() else {
+        unreachable!();
+    };
+    let left = lefts[net.class as usize].taking(net.nulls);
+    let total = net.foresee(rules, heads, rights, left, first, steps)?;
+    totals.push(total)?;
+    foresee_all(rules, heads, rest, lefts, rights, others, totals, steps)
 }
 
 /// Stores in each rule what a look ahead found. No closure is called.

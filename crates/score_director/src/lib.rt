@@ -13,6 +13,7 @@ mod network;
 mod node;
 mod order;
 mod parts;
+mod plain;
 mod rule;
 mod sums;
 mod totals;

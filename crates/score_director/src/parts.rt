@@ -1,5 +1,5 @@
 //! What a network keeps, and how it looks ahead.
-ghost use Rattle.std.specs.Prelude.{◌≡◌, ◌<◌, ◌++◌, [], All, OnOk, length, map};
+ghost use Rattle.std.specs.Prelude.{◌≡◌, ◌<◌, [], All, OnOk, length};
 ghost use Rattle.std.specs.List.{AllZip};
 ghost use Rattle.stream_heads.specs.Standing.{KeepsBase};
 ghost use Rattle.head_changes.specs.Changes.{all_come};
@@ -9,7 +9,7 @@ ghost use Rattle.score_director.specs.Net.{AreNetsOf};
 ghost use Rattle.score_director.specs.NetState.{Foresees};
 ghost use Rattle.score_director.specs.Rule.{AsksKnown, FindsFrom, HasPlaces, IsReady, KnowsClasses};
 
-use crate::all::look_at_all;
+use crate::all::{foresee_all, look_at_all};
 use crate::rule::{RuleAhead, RuleNet};
 use head_changes::{ClassChange, gather};
 use plan_facts::{Memory, Plan};
@@ -68,19 +68,9 @@ pub fn look<B: Book, L: Ledger>(
     Ok(())
 }
 
-/// Puts down what the rows of each rule add up to as it was found.
-pub fn note_totals(found: &[RuleAhead], totals: &mut Vec<u64>) -> Result<(), Memory>
-    ensures { OnOk result (totals.new.items ≡ map (λ f. f.end.total) found.now) }
-{
-    totals.clear();
-    for one in found {
-        totals.push(one.end.total)?;
-    }
-    Ok(())
-}
-
-/// Looks ahead as `look` does, and puts down what the rows of each rule add up to then.
-pub fn look_at_totals<B: Book, L: Ledger>(
+/// Gathers what a plan's change is for the records, which come into the heads, and puts down what the rows of each rule add
+/// up to then. No rule changes.
+pub fn foresee_totals<B: Book, L: Ledger>(
     parts: &mut Parts,
     rules: &Rules<B>,
     plan: &Plan,
@@ -103,7 +93,17 @@ pub fn look_at_totals<B: Book, L: Ledger>(
     ensures classes { length parts.new.changes.items ≡ length parts.old.changes.items }
     ensures each { AllZip HasPlaces parts.old.rules.items parts.new.found.items }
 {
-    look(parts, rules, plan, keys, steps)?;
-    note_totals(&parts.found, totals)?;
+    gather(&mut parts.heads, plan, keys, &mut parts.changes)?;
+    totals.clear();
+    foresee_all(
+        rules,
+        &parts.heads,
+        &parts.rules,
+        &parts.changes,
+        &parts.changes,
+        &mut parts.found,
+        totals,
+        steps,
+    )?;
     Ok(())
 }

@@ -6,5 +6,5 @@ use Rattle.score_director.proofs.net.Net.judge.Goals as goal
 
 pub returns-clause-foresees : goal.returns-clause-foresees
 returns-clause-foresees g c =
-    subst (λ (v : NetView). OnOk c.look_at_totals-noted.result (Foresees g.B.Book.meaning c.args.rules.now.defs v.heads.now v.rules c.args.keys.now c.args.plan.now c.look_at_totals-noted.new.totals.items)) c.self.view_is
-    c.look_at_totals-noted.ensures.foresees
+    subst (λ (v : NetView). OnOk c.foresee_totals-noted.result (Foresees g.B.Book.meaning c.args.rules.now.defs v.heads.now v.rules c.args.keys.now c.args.plan.now c.foresee_totals-noted.new.totals.items)) c.self.view_is
+    c.foresee_totals-noted.ensures.foresees

@@ -1,20 +1,23 @@
 -- The closures that a node of a rule asks were handed in, and how it stands without rows.
+use Rattle.std.specs.Option.{option_map}
 use Rattle.std.proofs.Common.{◌≡◌, ◌<◌, ℕ, zero, suc, List, [], ◌∷◌, Bool, Option, Some, IfSome, IsSome, All, false, true, length, get_or, slice_get, refl, subst, sym, arith}
 use Rattle.plan_rules.specs.declared.places.Numbers.{Numbers}
+use Rattle.plan_rules.specs.declared.rule.Head.{Head}
 use Rattle.plan_rules.specs.declared.rule.Node.{Node}
 use Rattle.plan_rules.specs.declared.rule.Node.TheVariants as node
 use Rattle.plan_rules.specs.declared.rule.RuleDef.{RuleDef}
-use Rattle.plan_rules.specs.Named.{node_closures, node_joiners}
+use Rattle.plan_rules.specs.Named.{node_closures, node_joiners, test_named}
 use Rattle.plan_rules.specs.Sound.{IsHandedIn, IsSound, IsSoundNode}
 use Rattle.join_keys.specs.Keys as keys
+use Rattle.stream_join.specs.Filter.{FilterView}
 use Rattle.stream_join.specs.Join.{JoinView}
-use Rattle.stream_join.specs.Nodes.{empty_join}
+use Rattle.stream_join.specs.Nodes.{empty_filter, empty_join, empty_pairs, is_filter, test_in}
 use Rattle.stream_exists.specs.Views.{ExistsView}
 use Rattle.stream_exists.specs.Nodes.{empty_exists}
 use Rattle.stream_group.specs.Group.{GroupView}
 use Rattle.stream_group.specs.Grouped as grouped
 use Rattle.stream_group.specs.Nodes.{empty_group, grouping_in}
-use Rattle.node_rows.specs.Turns.{JoinStands, ExistsStands, GroupStands}
+use Rattle.node_rows.specs.Turns.{FilterStands, JoinStands, ExistsStands, GroupStands}
 
 -- what holds of all holds of the one at a place
 at_place : {X : Type 0} (P : X → Type 0) (xs : List X) (k : ℕ) (x : X) → ((j : ℕ) (d : X) → j < length xs → P (get_or xs j d)) → slice_get xs k ≡ Some x → P x
@@ -58,6 +61,19 @@ grouping_handed numbers (node.IfExists class nulls joiners) all = λ k d within.
 grouping_handed numbers (node.IfNotExists class nulls joiners) all = λ k d within. absurd (omega arith)
 grouping_handed numbers (node.GroupBy by collect) all = all
 
+-- the test of a filter
+filter_handed : (numbers : Numbers) (n : Node) → is_filter n ≡ true → All (IsHandedIn numbers) (node_closures n) → IsHandedIn numbers (test_named (test_in n))
+filter_handed numbers (node.Filter test) is all = all 0 (test_named test) (omega arith)
+filter_handed numbers (node.Join class nulls joiners) is all = absurd cc
+filter_handed numbers (node.IfExists class nulls joiners) is all = absurd cc
+filter_handed numbers (node.IfNotExists class nulls joiners) is all = absurd cc
+filter_handed numbers (node.GroupBy by collect) is all = absurd cc
+
+-- a filter that was just made
+pub filter_stands : (numbers : Numbers) (found : Option Node) (n : Node) (made : FilterView) → Some n ≡ found → is_filter n ≡ true → All (IsHandedIn numbers) (node_closures n) → IfSome found (λ m. made ≡ empty_filter (test_in m)) → FilterStands false numbers made
+filter_stands numbers found n made is kind all made_is =
+    made_at (FilterStands false numbers) (λ (m : Node). empty_filter (test_in m)) found n made is made_is (filter_handed numbers n kind all, refl, refl)
+
 -- a join that was just made
 pub join_stands : (numbers : Numbers) (found : Option Node) (n : Node) (made : JoinView) → Some n ≡ found → All (IsHandedIn numbers) (node_closures n) → IfSome found (λ m. made ≡ empty_join m) → JoinStands false numbers made
 join_stands numbers found n made is all made_is =
@@ -72,3 +88,18 @@ exists_stands numbers found n made is all made_is =
 pub group_stands : (numbers : Numbers) (found : Option Node) (n : Node) (made : GroupView) → Some n ≡ found → All (IsHandedIn numbers) (node_closures n) → IfSome found (λ m. made ≡ empty_group (grouping_in m)) → GroupStands false numbers made
 group_stands numbers found n made is all made_is =
     made_at (GroupStands false numbers) (λ (m : Node). empty_group (grouping_in m)) found n made is made_is (grouping_handed numbers n all, refl, refl)
+
+-- the head of a rule that is there
+pub head_there : (found : Option RuleDef) (def : RuleDef) → Some def ≡ found → IsSome (option_map (λ (d : RuleDef). d.head) found)
+head_there found def is = subst (λ (o : Option RuleDef). IsSome (option_map (λ (d : RuleDef). d.head) o)) is refl
+
+-- the head of a kind
+pub head_kind : (kind : Head → Bool) (found : Option RuleDef) (def : RuleDef) → Some def ≡ found → kind def.head ≡ true → IfSome (option_map (λ (d : RuleDef). d.head) found) (λ h. kind h ≡ true)
+head_kind kind found def is holds =
+    subst (λ (o : Option RuleDef). IfSome (option_map (λ (d : RuleDef). d.head) o) (λ h. kind h ≡ true)) is holds
+
+-- a join of pairs that was just made
+pub pairs_stand : (classes : ℕ) (numbers : Numbers) (found : Option RuleDef) (def : RuleDef) (made : JoinView) → Some def ≡ found → IsSound classes numbers def → IfSome (option_map (λ (d : RuleDef). d.head) found) (λ h. made ≡ empty_pairs h) → JoinStands false numbers made
+pairs_stand classes numbers found def made is sound made_is =
+    let same : made ≡ empty_pairs def.head = subst (λ (o : Option RuleDef). IfSome (option_map (λ (d : RuleDef). d.head) o) (λ h. made ≡ empty_pairs h)) (sym is) made_is in
+    subst (JoinStands false numbers) (sym same) (sound.head.closures, refl, refl)

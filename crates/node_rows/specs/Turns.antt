@@ -2,14 +2,20 @@
 -- change was cut off.
 use Rattle.std.specs.Prelude.{◌≡◌, Bool, false, All}
 use Rattle.plan_rules.specs.declared.places.Numbers.{Numbers}
-use Rattle.plan_rules.specs.Named.{weigh_closures}
+use Rattle.plan_rules.specs.Named.{test_named, weigh_closures}
 use Rattle.plan_rules.specs.Sound.{IsHandedIn}
 use Rattle.join_keys.specs.Keys as keys
+use Rattle.stream_join.specs.Filter.{FilterView}
 use Rattle.stream_join.specs.Join.{JoinView}
 use Rattle.stream_exists.specs.Views.{ExistsView, is_open}
 use Rattle.stream_group.specs.Group.{GroupView}
 use Rattle.stream_group.specs.Grouped as grouped
 use Rattle.stream_end.specs.Ends.{EndView}
+
+-- a filter
+abbrev pub FilterStands : Bool → Numbers → FilterView → Type 0
+FilterStands opened numbers filter =
+    IsHandedIn numbers (test_named filter.test) × (filter.is_open ≡ opened) × (filter.is_torn ≡ false)
 
 -- a join
 abbrev pub JoinStands : Bool → Numbers → JoinView → Type 0

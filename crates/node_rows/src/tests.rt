@@ -1,10 +1,12 @@
 mod changes;
 mod end;
 mod exists;
+mod filter;
 mod fixtures;
 mod group;
 mod heads;
 mod index;
 mod join;
 mod keys;
+mod pairs;
 mod store;

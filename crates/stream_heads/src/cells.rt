@@ -125,6 +125,7 @@ impl Cells {
     }
 
     /// Whether the row is one of these.
+    #[inline(always)]
     pub fn is_among(&self, rows: &[Cells]) -> bool
         ensures { result ≡ is_among rows.now self.now }
     {

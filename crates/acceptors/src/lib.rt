@@ -17,9 +17,6 @@ use plan_settings::AcceptorKind;
 use std::alloc::Global;
 use std::marker::Model;
 
-#[cfg(test)]
-mod tests;
-
 /// What is kept of a leg: its last and best scores, and what its kind of acceptance looks back at.
 ///
 /// It stands for a history of the leg: `begin` starts one, and `after` adds a step to it.

@@ -7,8 +7,6 @@ mod maker;
 mod names;
 mod rules;
 mod shifts;
-#[cfg(test)]
-mod tests;
 
 pub use classes::{open_schema, schema};
 pub use closures::{key_value, test_value, weight_value};

@@ -7,8 +7,6 @@ mod lessons;
 mod maker;
 mod names;
 mod rules;
-#[cfg(test)]
-mod tests;
 
 pub use classes::schema;
 pub use closures::{key_value, test_value, weight_value};

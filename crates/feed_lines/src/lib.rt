@@ -7,6 +7,3 @@ mod window;
 
 pub use fault::FeedFault;
 pub use lines::{LONGEST_LINE, Lines, MOST_BYTES, MOST_LINES};
-
-#[cfg(test)]
-mod tests;

@@ -109,6 +109,3 @@ fn has_other_key<F: Fn(&[u8]) -> bool>(members: &Map<String, Value>, is_known: F
     }
     false
 }
-
-#[cfg(test)]
-mod tests;

@@ -15,9 +15,6 @@ mod picks;
 
 pub use picks::{picked, picked_place};
 
-#[cfg(test)]
-mod tests;
-
 // The words of a block, which two candidates share.
 const BLOCK: usize = 16;
 

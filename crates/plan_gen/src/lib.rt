@@ -3,8 +3,6 @@
 
 mod draw;
 mod facts;
-#[cfg(test)]
-mod tests;
 mod text;
 
 use std::alloc::{AllocError, AllocFailed};

@@ -9,8 +9,6 @@ mod memory_shelf;
 mod shelf;
 mod stream;
 mod system;
-#[cfg(test)]
-mod tests;
 
 pub use fault::{Failed, PortFault, ReadFault};
 pub use gate::{Gate, NoGate, Place};

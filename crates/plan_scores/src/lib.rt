@@ -6,8 +6,6 @@ mod level;
 mod memory;
 mod plan_score;
 mod score;
-#[cfg(test)]
-mod tests;
 
 pub use laws::{first_best_is_first, plan_scores_are_ordered, scores_add_up, scores_are_ordered};
 pub use level::Level;

@@ -1,6 +1,6 @@
 //! The rules as a table.
 
-use crate::{defs, open_defs};
+use domain_roster::{defs, open_defs};
 use plan_facts::List;
 use plan_rules::{Collect, Head, Joiner, Node, RuleDef};
 use plan_scores::Level;

@@ -1,5 +1,5 @@
 use Rattle.std.proofs.Common.{◌≡◌, ◌≤◌}
-use Rattle.acceptors.proofs.tests.after_steps.Given as goal
+use Rattle.base_rows.proofs.tests.accepting.after_steps.Given as goal
 
 -- the acceptor keeps the steps that were done
 abbrev pub invariant-loop-score : goal.invariant-loop-score

@@ -1,4 +1,6 @@
-use super::*;
+//! Generated problems.
+
+use plan_gen::{Memory, problem_text};
 use std::test::Fail;
 
 /// A problem that another program made. Line feeds in the text stand for nothing.

@@ -1,5 +1,12 @@
-use super::*;
-use plan_scores::Score;
+//! Acceptors: what each kind accepts after some steps.
+
+use crate::plan_score;
+use acceptors::Acceptor;
+use plan_facts::Memory;
+use plan_moves::Touch;
+use plan_scores::{PlanScore, Score};
+use plan_settings::AcceptorKind;
+use std::alloc::Global;
 use std::test::Fail;
 
 /// The three numbers of a score, and the ids of the entities of class 0 that a move touches.
@@ -513,15 +520,10 @@ const CASES: [Case; 20] = [
     },
 ];
 
-fn plan_score(numbers: [i64; 3]) -> PlanScore {
-    PlanScore {
-        unplaced: 0,
-        score: Score {
-            hard: numbers[0],
-            medium: numbers[1],
-            soft: numbers[2],
-        },
-    }
+/// What a placed plan is worth with these three numbers.
+fn placed(numbers: [i64; 3]) -> PlanScore {
+    let [hard, medium, soft] = numbers;
+    plan_score(0, Score { hard, medium, soft })
 }
 
 fn touches(alloc: Global, ids: &[u32]) -> Result<Vec<Touch>, Fail> {
@@ -535,14 +537,14 @@ fn touches(alloc: Global, ids: &[u32]) -> Result<Vec<Touch>, Fail> {
 /// The acceptor after the steps of a leg.
 fn after_steps(alloc: Global, case: &Case) -> Result<Acceptor, Fail> {
     let mut acceptor = Acceptor::new(alloc, case.kind, case.size.clamp(1, 10_000))?;
-    acceptor.begin(plan_score(case.start));
+    acceptor.begin(placed(case.start));
     let mut done: u32 = 0;
     for (score, ids) in case.steps {
         if done >= 1_000 {
             break;
         }
         let touched = touches(alloc, ids)?;
-        acceptor.after(plan_score(*score), &touched)?;
+        acceptor.after(placed(*score), &touched)?;
         done += 1;
     }
     Ok(acceptor)
@@ -552,7 +554,7 @@ fn after_steps(alloc: Global, case: &Case) -> Result<Acceptor, Fail> {
 fn count_accepted(alloc: Global, acceptor: &Acceptor, moves: &[Move]) -> Result<usize, Fail> {
     let mut count: usize = 0;
     for (score, ids) in moves {
-        if acceptor.accepted(&plan_score(*score), &touches(alloc, ids)?) {
+        if acceptor.accepted(&placed(*score), &touches(alloc, ids)?) {
             count = count.saturating_add(1);
         }
     }

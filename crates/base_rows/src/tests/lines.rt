@@ -1,6 +1,8 @@
+//! The lines of sources that give their bytes in pieces.
+
 ghost use Rattle.std.specs.Prelude.{◌≤◌};
 
-use super::*;
+use feed_lines::{FeedFault, Lines};
 use plan_ports::{MemSource, Source};
 use std::alloc::{AllocError, Global};
 use std::process::Abort;

@@ -1,4 +1,7 @@
-use super::*;
+//! JSON values that are read by name, kind and range.
+
+use json_values::{ReadFault, has_other, items, member, number_within, read_value};
+use serde_json::Value;
 use std::test::Fail;
 
 /// A member of the text, a range, and the number within it that the member is.

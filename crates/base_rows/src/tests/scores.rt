@@ -1,12 +1,11 @@
-use crate::{Level, PlanScore, Score};
+//! The order, the sum and the text of scores.
+
+use crate::plan_score;
+use plan_scores::{Level, PlanScore, Score};
 use std::test::Fail;
 
 fn score(hard: i64, medium: i64, soft: i64) -> Score {
     Score { hard, medium, soft }
-}
-
-fn plan_score(unplaced: u32, score: Score) -> PlanScore {
-    PlanScore { unplaced, score }
 }
 
 #[test]

@@ -1,6 +1,9 @@
+//! The timetable: its rules, its closures on rows, its maker.
+
 ghost use Rattle.std.specs.Prelude.{◌≡◌, IfOk, length};
 
-use super::*;
+use crate::lone_row;
+use domain_timetable::{Maker, defs, harder, key_value, numbers, schema, test_value, weight_value};
 use plan_facts::{List, Memory, Plan, Raw, Rec, Value};
 use plan_moves::{Edit, MoveMaker, Set};
 use plan_rules::{Part, Row};
@@ -23,20 +26,13 @@ fn lesson(
     let mut planned = List::new(alloc);
     planned.push(slot)?;
     planned.push(room)?;
+    let fields = List::from_slice(alloc, &[5, 6, 7, size])?;
     Ok(Part::Fact(Rec {
         class: 2,
         id: 1,
-        fields: List::from_slice(alloc, &[5, 6, 7, size])?,
+        fields,
         planned,
     }))
-}
-
-fn row(alloc: Global, one: Part) -> Result<Row, Memory>
-    ensures { IfOk result (λ row. length row ≡ 1) }
-{
-    let mut row = Row::new(alloc);
-    row.push(one)?;
-    Ok(row)
 }
 
 /// A lesson for 31 in slot 2 and room 3, which holds 30.
@@ -45,39 +41,42 @@ fn full_lesson(alloc: Global) -> Result<Row, Memory>
 {
     let slot = value(alloc, 2, &[1, 480, 540])?;
     let room = value(alloc, 3, &[30])?;
-    row(alloc, lesson(alloc, 31, slot, room)?)
+    lone_row(alloc, lesson(alloc, 31, slot, room)?)
 }
 
 /// That lesson and one in slot 4, which starts at this minute, and room 5.
 fn two_lessons(alloc: Global, start: i64) -> Result<Row, Memory> {
-    let mut row = full_lesson(alloc)?;
     let slot = value(alloc, 4, &[1, start, 640])?;
     let room = value(alloc, 5, &[40])?;
-    row.push(lesson(alloc, 31, slot, room)?)?;
+    let second = lesson(alloc, 31, slot, room)?;
+    let mut row = full_lesson(alloc)?;
+    row.push(second)?;
     Ok(row)
 }
 
 fn three_numbers(alloc: Global, third: i64) -> Result<Row, Memory> {
-    let mut row = row(alloc, Part::Num(7))?;
+    let mut row = lone_row(alloc, Part::Num(7))?;
     row.push(Part::Num(1))?;
     row.push(Part::Num(third))?;
     Ok(row)
 }
 
 fn block(alloc: Global) -> Result<Row, Memory> {
+    let fields = List::from_slice(alloc, &[6, 1])?;
+    let planned = List::new(alloc);
     let fact = Part::Fact(Rec {
         class: 3,
         id: 1,
-        fields: List::from_slice(alloc, &[6, 1])?,
-        planned: List::new(alloc),
+        fields,
+        planned,
     });
-    row(alloc, fact)
+    lone_row(alloc, fact)
 }
 
 /// A lesson that has a slot and no room.
 fn homeless_lesson(alloc: Global) -> Result<Row, Memory> {
     let slot = value(alloc, 2, &[1, 480, 540])?;
-    row(alloc, lesson(alloc, 31, slot, None)?)
+    lone_row(alloc, lesson(alloc, 31, slot, None)?)
 }
 
 /// A row, in short.
@@ -132,7 +131,7 @@ fn a_key_is_clipped(rt: HostRuntime) -> Result<(), Fail> {
     let alloc = rt.alloc();
     let slot = value(alloc, 1_000_000_001, &[1, 480, 540])?;
     let room = value(alloc, 3, &[30])?;
-    let row = row(alloc, lesson(alloc, 31, slot, room)?)?;
+    let row = lone_row(alloc, lesson(alloc, 31, slot, room)?)?;
     assert_eq!(rt; key_value(0, &row), 1_000_000_000);
     Ok(())
 }
@@ -182,12 +181,16 @@ fn weighers_answer(rt: HostRuntime) -> Result<(), Fail> {
     Ok(())
 }
 
+/// A fact that isn't pinned.
 fn raw(alloc: Global, id: u32, fields: &[i64], values: &[Option<u32>]) -> Result<Raw, Memory> {
+    let fields = List::from_slice(alloc, fields)?;
+    let values = List::from_slice(alloc, values)?;
+    let pinned = false;
     Ok(Raw {
         id,
-        fields: List::from_slice(alloc, fields)?,
-        values: List::from_slice(alloc, values)?,
-        pinned: false,
+        fields,
+        values,
+        pinned,
     })
 }
 

@@ -1,8 +1,13 @@
+//! The roster: its rules, its closures on rows, its maker.
+
 ghost use Rattle.std.specs.Prelude.{◌≡◌, IfOk, length};
 
 mod rules;
 
-use super::*;
+use crate::lone_row;
+use domain_roster::{
+    Maker, harder, key_value, numbers, open_schema, schema, test_value, weight_value,
+};
 use plan_facts::{List, Memory, Plan, Raw, Rec, Schema, Value};
 use plan_moves::{Edit, MoveMaker, Set};
 use plan_rules::{Part, Row};
@@ -28,12 +33,15 @@ enum RowSketch {
 use RowSketch::{One, Three, Two};
 use Sketch::{Fact, Filled, Num, Unfilled};
 
+/// A fact without variables.
 fn fact(alloc: Global, class: u8, id: u32, fields: &[i64]) -> Result<Part, Memory> {
+    let fields = List::from_slice(alloc, fields)?;
+    let planned = List::new(alloc);
     Ok(Part::Fact(Rec {
         class,
         id,
-        fields: List::from_slice(alloc, fields)?,
-        planned: List::new(alloc),
+        fields,
+        planned,
     }))
 }
 
@@ -47,10 +55,11 @@ fn employee(alloc: Global) -> Result<Option<Value>, Memory> {
 fn shift(alloc: Global, times: &[i64; 3], worker: Option<Value>) -> Result<Part, Memory> {
     let mut planned = List::new(alloc);
     planned.push(worker)?;
+    let fields = List::from_slice(alloc, &[times[0], times[1], times[2], 7])?;
     Ok(Part::Fact(Rec {
         class: 1,
         id: 1,
-        fields: List::from_slice(alloc, &[times[0], times[1], times[2], 7])?,
+        fields,
         planned,
     }))
 }
@@ -64,18 +73,10 @@ fn part(alloc: Global, sketch: &Sketch) -> Result<Part, Memory> {
     }
 }
 
-fn row(alloc: Global, one: Part) -> Result<Row, Memory>
-    ensures { IfOk result (λ row. length row ≡ 1) }
-{
-    let mut row = Row::new(alloc);
-    row.push(one)?;
-    Ok(row)
-}
-
 fn row_of_two(alloc: Global, one: Part, other: Part) -> Result<Row, Memory>
     ensures { IfOk result (λ row. length row ≡ 2) }
 {
-    let mut row = row(alloc, one)?;
+    let mut row = lone_row(alloc, one)?;
     row.push(other)?;
     Ok(row)
 }
@@ -88,7 +89,7 @@ fn row_of_three(alloc: Global, one: i64, other: i64, third: Part) -> Result<Row,
 
 fn row_of(alloc: Global, sketch: &RowSketch) -> Result<Row, Memory> {
     match sketch {
-        One(one) => row(alloc, part(alloc, one)?),
+        One(one) => lone_row(alloc, part(alloc, one)?),
         Two(one, other) => row_of_two(alloc, part(alloc, one)?, part(alloc, other)?),
         Three(one, other, third) => row_of_three(alloc, *one, *other, part(alloc, third)?),
     }
@@ -196,12 +197,16 @@ fn weighers_answer(rt: HostRuntime) -> Result<(), Fail> {
     Ok(())
 }
 
+/// A fact that isn't pinned.
 fn raw(alloc: Global, id: u32, fields: &[i64], values: &[Option<u32>]) -> Result<Raw, Memory> {
+    let fields = List::from_slice(alloc, fields)?;
+    let values = List::from_slice(alloc, values)?;
+    let pinned = false;
     Ok(Raw {
         id,
-        fields: List::from_slice(alloc, fields)?,
-        values: List::from_slice(alloc, values)?,
-        pinned: false,
+        fields,
+        values,
+        pinned,
     })
 }
 

@@ -1,6 +1,8 @@
+//! Sources, sinks, shelves and gates, in memory and real.
+
 ghost use Rattle.std.specs.Prelude.{◌≤◌, IfOk, [], true};
 
-use crate::{
+use plan_ports::{
     FileShelf, Gate, MemFile, MemShelf, MemSink, MemSource, NoGate, OutSink, Place, PortFault,
     ReadFault, Shelf, Sink, Source, put_all, read_all,
 };

@@ -1,4 +1,6 @@
-use super::*;
+//! The words of candidates, and what a word picks.
+
+use plan_draws::{Draws, pick};
 
 /// The words and the pick of a candidate, computed by another program.
 #[derive(Clone, Copy)]

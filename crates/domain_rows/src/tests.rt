@@ -1,0 +1,2 @@
+mod roster;
+mod timetable;

@@ -1,4 +1,4 @@
-//! What the tests of moves and of selectors begin with.
+//! What the tests of plans, of moves and of selectors begin with.
 use plan_facts::{Plan, Schema};
 use std::alloc::Global;
 use std::test::Fail;
@@ -20,4 +20,15 @@ pub(super) fn make_plan(
     let schema = schema_of(alloc, classes)?;
     let plan = plan_of(alloc, &schema, facts)?;
     Ok(Planned { schema, plan })
+}
+
+/// The plan of these facts of these classes, without its schema.
+pub(super) fn plan_alone(
+    alloc: Global,
+    classes: &[ClassSketch],
+    facts: &[&[FactSketch]],
+) -> Result<Plan, Fail> {
+    let schema = schema_of(alloc, classes)?;
+    let plan = plan_of(alloc, &schema, facts)?;
+    Ok(plan)
 }

@@ -2,11 +2,11 @@
 ghost use Rattle.std.specs.Prelude.{◌≡◌, ◌==◌, if◌then◌else◌, [], ◌∷◌, Some, None, slice_index};
 ghost use Rattle.plan_moves.specs.Edits.{edit_of};
 
+use super::fixtures::plan_alone;
 use plan_facts::{Memory, Plan};
 use plan_moves::{Edit, MoveMaker, Set, make_by};
 use std::alloc::Global;
 use std::test::Fail;
-use test_plans::{plan_of, schema_of};
 
 /// Takes away the value of the fact whose id is the first word; at word 0 it makes nothing.
 #[derive(Drop)]
@@ -39,8 +39,7 @@ fn cleared(id: u32) -> Set
 
 /// The plan of a domain with no classes.
 fn plan(alloc: Global) -> Result<Plan, Fail> {
-    let schema = schema_of(alloc, &[])?;
-    Ok(plan_of(alloc, &schema, &[])?)
+    plan_alone(alloc, &[], &[])
 }
 
 /// Lets `Clears` fill an edit by its box; whether it made one.
@@ -49,7 +48,8 @@ fn make(alloc: Global, words: &[u32; 8], into: &mut Edit) -> Result<bool, Fail>
 {
     let plan = plan(alloc)?;
     let maker: Box<dyn MoveMaker> = Box::new(alloc, Clears)?;
-    Ok(make_by(&maker, &plan, words, into)?)
+    let made = make_by(&maker, &plan, words, into)?;
+    Ok(made)
 }
 
 #[test]

@@ -1,7 +1,7 @@
 //! Edits of a plan: their sets in order, which are doable, how they are taken back, and what variables may hold.
 use super::fixtures::{Planned, make_plan};
 use plan_facts::Kind::Number;
-use plan_facts::Plan;
+use plan_facts::{Memory, Plan};
 use plan_moves::{Edit, Set, Touch, choice_at, choice_count};
 use std::alloc::Global;
 use std::process::Abort;
@@ -124,12 +124,17 @@ const TOUCHED: &[Touch] = &[
     Touch { class: ROOM, id: 1 },
 ];
 
+/// Whether the edit touches these facts, in this order.
+fn touches(edit: &Edit, facts: &[Touch]) -> Result<bool, Memory> {
+    let touched = edit.touched()?;
+    Ok(touched.as_slice() == facts)
+}
+
 #[test]
 fn puts_sets_in_their_order(rt: HostRuntime) -> Result<(), Fail> {
     let mut edit = Edit::new(rt.alloc());
-    assert!(rt; wrong_put(&mut edit) == None);
-    assert!(rt; has_sets(&edit, PUT));
-    assert!(rt; edit.touched()?.as_slice() == TOUCHED);
+    assert!(rt; (wrong_put(&mut edit), has_sets(&edit, PUT)) == (None, true));
+    assert!(rt; touches(&edit, TOUCHED) == Ok(true));
     Ok(())
 }
 
@@ -180,13 +185,21 @@ fn is_doable(alloc: Global, lessons: &Planned, changes: &[Change]) -> Option<boo
     Some(edit.doable(&lessons.schema, &lessons.plan))
 }
 
+/// The name of the first of those edits that isn't so.
+fn wrong_edit(alloc: Global, lessons: &Planned) -> Option<&'static str> {
+    for (name, changes, doable) in EDITS {
+        if is_doable(alloc, lessons, changes) != Some(*doable) {
+            return Some(*name);
+        }
+    }
+    None
+}
+
 #[test]
 fn tells_which_edits_are_doable(rt: HostRuntime) -> Result<(), Fail> {
     let lessons = make_plan(rt.alloc(), CLASSES, TIMETABLE)?;
-    for (name, changes, doable) in EDITS {
-        let answer = is_doable(rt.alloc(), &lessons, changes);
-        assert!(rt; answer == Some(*doable), "{name}");
-    }
+    let wrong = wrong_edit(rt.alloc(), &lessons);
+    assert!(rt; wrong == None, "{wrong:?}");
     Ok(())
 }
 
@@ -228,10 +241,10 @@ fn expect_lessons(
 fn an_edit_and_its_inverse_give_the_plan_back(rt: HostRuntime) -> Result<(), Fail> {
     let mut lessons = make_plan(rt.alloc(), CLASSES, TIMETABLE)?;
     let mut edit = Edit::new(rt.alloc());
-    assert!(rt; put_all(&mut edit, CHANGES));
+    let put = put_all(&mut edit, CHANGES);
     assert!(rt; edit.doable(&lessons.schema, &lessons.plan));
     let back = edit.inverse(&lessons.plan)?;
-    assert!(rt; has_sets(&back, BACK));
+    assert!(rt; (put, has_sets(&back, BACK)) == (true, true));
     edit.apply(&mut lessons.plan);
     let plan = &lessons.plan;
     expect_lessons(&rt, plan, &[None, Some(2)], &[Some(2), Some(2)], 1);
@@ -264,10 +277,10 @@ const SWAP: &[Change] = &[
 fn a_swap_of_equal_values_is_not_doable(rt: HostRuntime) -> Result<(), Fail> {
     let twins = make_plan(rt.alloc(), CLASSES, TWINS)?;
     let mut edit = Edit::new(rt.alloc());
-    assert!(rt; put_all(&mut edit, SWAP));
-    assert!(rt; edit.put(set_of(&(LESSON, 1, 0, Some(2)))) == Ok(false));
-    assert!(rt; has_sets(&edit, SWAP));
-    assert!(rt; !edit.doable(&twins.schema, &twins.plan));
+    let put = put_all(&mut edit, SWAP);
+    let other = edit.put(set_of(&(LESSON, 1, 0, Some(2))));
+    let doable = edit.doable(&twins.schema, &twins.plan);
+    assert!(rt; (put, other, has_sets(&edit, SWAP), doable) == (true, Ok(false), true, false));
     Ok(())
 }
 
@@ -275,14 +288,18 @@ fn a_swap_of_equal_values_is_not_doable(rt: HostRuntime) -> Result<(), Fail> {
 fn a_move_to_another_slot_is_taken_back(rt: HostRuntime) -> Result<(), Fail> {
     let twins = make_plan(rt.alloc(), CLASSES, TWINS)?;
     let mut edit = Edit::new(rt.alloc());
-    assert!(rt; put_all(&mut edit, &[(LESSON, 1, 0, Some(2))]));
-    assert!(rt; edit.doable(&twins.schema, &twins.plan));
-    assert!(rt; has_sets(&edit.inverse(&twins.plan)?, &[(LESSON, 1, 0, Some(1))]));
+    let put = put_all(&mut edit, &[(LESSON, 1, 0, Some(2))]);
+    assert!(rt; (put, edit.doable(&twins.schema, &twins.plan)) == (true, true));
+    let back = edit.inverse(&twins.plan)?;
     let first = Touch {
         class: LESSON,
         id: 1,
     };
-    assert!(rt; edit.touched()?.as_slice() == [first].as_slice());
+    let found = (
+        has_sets(&back, &[(LESSON, 1, 0, Some(1))]),
+        touches(&edit, &[first]),
+    );
+    assert!(rt; found == (true, Ok(true)));
     Ok(())
 }
 
@@ -316,15 +333,37 @@ fn an_edit_is_filled_anew(rt: HostRuntime) -> Result<(), Fail> {
     Ok(())
 }
 
+/// How many choices a variable of lessons has, if there is such a one.
+fn count_of(plan: &Plan, var: u8) -> Option<usize> {
+    if var as usize >= plan.ranges(LESSON).len() {
+        return None;
+    }
+    Some(choice_count(plan, LESSON, var))
+}
+
+/// The choice at a place, if there is such a one.
+fn choice_of(plan: &Plan, var: u8, place: usize) -> Option<Option<u32>> {
+    if var as usize >= plan.ranges(LESSON).len() || place >= choice_count(plan, LESSON, var) {
+        return None;
+    }
+    Some(choice_at(plan, LESSON, var, place))
+}
+
 #[test]
 fn null_is_the_last_choice_of_a_room(rt: HostRuntime) -> Result<(), Fail> {
     let lessons = make_plan(rt.alloc(), CLASSES, TIMETABLE)?;
     let plan = &lessons.plan;
-    assert!(rt; plan.ranges(LESSON).len() == 2);
-    assert!(rt; choice_count(plan, LESSON, 0) == 3);
-    assert!(rt; choice_at(plan, LESSON, 0, 2) == Some(5));
-    assert!(rt; choice_count(plan, LESSON, 1) == 3);
-    assert!(rt; choice_at(plan, LESSON, 1, 1) == Some(2));
-    assert!(rt; choice_at(plan, LESSON, 1, 2) == None);
+    let counts = (
+        plan.ranges(LESSON).len(),
+        count_of(plan, 0),
+        count_of(plan, 1),
+    );
+    assert!(rt; counts == (2, Some(3), Some(3)));
+    let choices = (
+        choice_of(plan, 0, 2),
+        choice_of(plan, 1, 1),
+        choice_of(plan, 1, 2),
+    );
+    assert!(rt; choices == (Some(Some(5)), Some(Some(2)), Some(None)));
     Ok(())
 }

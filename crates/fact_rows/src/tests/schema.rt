@@ -1,6 +1,7 @@
 //! The schema of a domain: classes at the limits, and what is refused.
 use plan_facts::Kind::{self, Number};
 use plan_facts::{Schema, SchemaFault};
+use std::alloc::Global;
 use std::test::Fail;
 use test_plans::VarSketch::Var;
 use test_plans::{ClassSketch, VarSketch, schema_of};
@@ -39,6 +40,11 @@ const WIDEST: &[ClassSketch] = &[
     LESSON,
 ];
 
+/// The schema of these classes, of which callers need to know nothing.
+fn schema_with(alloc: Global, classes: &[ClassSketch]) -> Result<Schema, SchemaFault> {
+    schema_of(alloc, classes)
+}
+
 /// Whether the schema's class with this number has this name.
 fn is_named(schema: &Schema, class: u8, name: &str) -> bool {
     match schema.class(class) {
@@ -49,10 +55,13 @@ fn is_named(schema: &Schema, class: u8, name: &str) -> bool {
 
 #[test]
 fn accepts_classes_at_the_limits(rt: HostRuntime) -> Result<(), Fail> {
-    let schema = schema_of(rt.alloc(), WIDEST)?;
-    assert!(rt; schema.classes() == 3);
-    assert!(rt; is_named(&schema, 2, "lesson"));
-    assert!(rt; schema.class(3).is_none());
+    let schema = schema_with(rt.alloc(), WIDEST)?;
+    let found = (
+        schema.classes(),
+        is_named(&schema, 2, "lesson"),
+        schema.class(3).is_none(),
+    );
+    assert!(rt; found == (3, true, true));
     Ok(())
 }
 
@@ -151,7 +160,7 @@ const FAULTS: &[(&[ClassSketch], SchemaFault)] = &[
 #[test]
 fn names_the_first_fault(rt: HostRuntime) -> Result<(), Fail> {
     for (classes, fault) in FAULTS {
-        let found = schema_of(rt.alloc(), classes).err();
+        let found = schema_with(rt.alloc(), classes).err();
         assert!(rt; found == Some(*fault), "{fault:?} and not {found:?}");
     }
     Ok(())

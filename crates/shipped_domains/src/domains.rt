@@ -1,9 +1,10 @@
-ghost use Rattle.std.specs.Prelude.{◌≡◌, ◌∷◌, [], All, IfOk, IsTrue, map};
+ghost use Rattle.std.specs.Prelude.{◌≡◌, ◌∷◌, [], All, IfOk, IsTrue, None, codes, map};
 ghost use Rattle.plan_facts.specs.Schema.{is_name};
 ghost use Rattle.plan_json.specs.Seen.{domain_view, domain_views};
+ghost use Rattle.plan_rules.specs.Faults.{rules_fault};
 ghost use Rattle.domain_timetable.specs.Names.{timetable_numbers};
 ghost use Rattle.domain_roster.specs.Names.{roster_numbers};
-ghost use Rattle.shipped_domains.specs.Catalog.{catalog, domain_with, timetable, roster, open_roster};
+ghost use Rattle.shipped_domains.specs.Catalog.{catalog, shipped, timetable, roster, open_roster};
 ghost use Rattle.shipped_domains.specs.Handed.{numbers_handed};
 ghost use Rattle.shipped_domains.specs.Numbered.{numbers_shipped};
 
@@ -11,31 +12,109 @@ use crate::book::Shipped;
 use crate::closures::Closures;
 use crate::parted::each_of;
 use crate::rules::shipped_rules_of;
-use plan_facts::{Memory, Schema, Text};
+use plan_facts::{List, Memory, Schema, Text};
 use plan_json::Domain;
 use plan_moves::MoveMaker;
-use plan_rules::{Kept, Rules};
+use plan_rules::{Harder, Kept, RuleDef, Rules};
 use std::alloc::Global;
 
-/// A domain of this name with one maker of moves.
+/// What a domain is made of beside its closures and its maker of moves.
+#[derive(Drop)]
+struct Parts {
+    schema: Schema,
+    defs: List<RuleDef>,
+    harder: List<Harder>,
+}
+
+/// The name of a domain, and its makers of moves: the one that is given.
+fn name_and_makers(
+    alloc: Global,
+    name: &[u8],
+    maker: Box<dyn MoveMaker>,
+) -> Result<(Text, Vec<Box<dyn MoveMaker>>), Memory>
+    ensures name { IfOk result (λ both. both.0 ≡ name.now) }
+    ensures makers { IfOk result (λ both. both.1.items ≡ maker ∷ []) }
+{
+    let name = Text::from_slice(alloc, name)?;
+    let mut makers = Vec::new(alloc);
+    makers.push(maker)?;
+    Ok((name, makers))
+}
+
+/// A domain of this name and these parts with its closures and one maker of moves.
 fn domain_of(
     alloc: Global,
     name: &[u8],
-    schema: Schema,
-    rules: Rules<Shipped>,
+    parts: Parts,
+    closures: Closures,
     maker: Box<dyn MoveMaker>,
 ) -> Result<Domain<Shipped>, Memory>
     requires named { IsTrue (is_name name.now) }
-    requires over { rules.schema ≡ schema }
+    requires accepted { rules_fault parts.schema (numbers_handed closures) parts.defs parts.harder ≡ None }
     ensures view { IfOk result (λ domain.
-        domain_view domain ≡ domain_with name.now schema rules.defs rules.caps rules.harder) }
-    ensures rules { IfOk result (λ domain. domain.rules ≡ rules) }
+        domain_view domain ≡ shipped name.now parts.schema parts.defs (numbers_handed closures) parts.harder) }
+    ensures keeps { IfOk result (λ domain. ⟦<Rules<Shipped> as Kept>⟧.keeps domain.rules) }
     ensures makers { IfOk result (λ domain. domain.makers.items ≡ maker ∷ []) }
 {
-    let mut makers = Vec::new(alloc);
-    makers.push(maker)?;
-    let name = Text::from_slice(alloc, name)?;
+    let (name, makers) = name_and_makers(alloc, name, maker)?;
+    let Parts {
+        schema,
+        defs,
+        harder,
+    } = parts;
+    let rules = shipped_rules_of(alloc, &schema, defs, closures, harder)?;
     Ok(Domain::new(name, schema, rules, makers))
+}
+
+/// The classes, the rules and the harder keys of the timetable.
+fn timetable_parts(alloc: Global) -> Result<Parts, Memory>
+    ensures view { IfOk result (λ parts.
+        shipped (codes "timetable") parts.schema parts.defs timetable_numbers parts.harder ≡ timetable) }
+    ensures accepted { IfOk result (λ parts.
+        rules_fault parts.schema timetable_numbers parts.defs parts.harder ≡ None) }
+{
+    let schema = domain_timetable::schema(alloc)?;
+    let defs = domain_timetable::defs(alloc)?;
+    let harder = domain_timetable::harder(alloc)?;
+    Ok(Parts {
+        schema,
+        defs,
+        harder,
+    })
+}
+
+/// The classes, the rules and the harder keys of the roster.
+fn roster_parts(alloc: Global) -> Result<Parts, Memory>
+    ensures view { IfOk result (λ parts.
+        shipped (codes "roster") parts.schema parts.defs roster_numbers parts.harder ≡ roster) }
+    ensures accepted { IfOk result (λ parts.
+        rules_fault parts.schema roster_numbers parts.defs parts.harder ≡ None) }
+{
+    let schema = domain_roster::schema(alloc)?;
+    let defs = domain_roster::defs(alloc)?;
+    let harder = domain_roster::harder(alloc)?;
+    Ok(Parts {
+        schema,
+        defs,
+        harder,
+    })
+}
+
+/// The classes, the rules and the harder keys of the roster whose shifts may stay open.
+fn open_roster_parts(alloc: Global) -> Result<Parts, Memory>
+    ensures view { IfOk result (λ parts.
+        shipped (codes "open_roster") parts.schema parts.defs roster_numbers parts.harder ≡ open_roster) }
+    ensures accepted { IfOk result (λ parts.
+        rules_fault parts.schema roster_numbers parts.defs parts.harder ≡ None) }
+{
+    let schema = domain_roster::open_schema(alloc)?;
+    let defs = domain_roster::open_defs(alloc)?;
+    let harder = domain_roster::harder(alloc)?;
+    Ok(Parts {
+        schema,
+        defs,
+        harder,
+    })
 }
 
 /// The timetable with its closures and its maker of moves.
@@ -49,12 +128,8 @@ fn timetable_of(
     ensures keeps { IfOk result (λ domain. ⟦<Rules<Shipped> as Kept>⟧.keeps domain.rules) }
     ensures makers { IfOk result (λ domain. domain.makers.items ≡ maker ∷ []) }
 {
-    let schema = domain_timetable::schema(alloc)?;
-    let defs = domain_timetable::defs(alloc)?;
-    let harder = domain_timetable::harder(alloc)?;
-    let rules = shipped_rules_of(alloc, &schema, defs, closures, harder)?;
-    let domain = domain_of(alloc, b"timetable", schema, rules, maker)?;
-    Ok(domain)
+    let parts = timetable_parts(alloc)?;
+    domain_of(alloc, b"timetable", parts, closures, maker)
 }
 
 /// The roster with its closures and its maker of moves.
@@ -68,12 +143,8 @@ fn roster_of(
     ensures keeps { IfOk result (λ domain. ⟦<Rules<Shipped> as Kept>⟧.keeps domain.rules) }
     ensures makers { IfOk result (λ domain. domain.makers.items ≡ maker ∷ []) }
 {
-    let schema = domain_roster::schema(alloc)?;
-    let defs = domain_roster::defs(alloc)?;
-    let harder = domain_roster::harder(alloc)?;
-    let rules = shipped_rules_of(alloc, &schema, defs, closures, harder)?;
-    let domain = domain_of(alloc, b"roster", schema, rules, maker)?;
-    Ok(domain)
+    let parts = roster_parts(alloc)?;
+    domain_of(alloc, b"roster", parts, closures, maker)
 }
 
 /// The roster whose shifts may stay open, with its closures and its maker of moves.
@@ -87,12 +158,30 @@ fn open_roster_of(
     ensures keeps { IfOk result (λ domain. ⟦<Rules<Shipped> as Kept>⟧.keeps domain.rules) }
     ensures makers { IfOk result (λ domain. domain.makers.items ≡ maker ∷ []) }
 {
-    let schema = domain_roster::open_schema(alloc)?;
-    let defs = domain_roster::open_defs(alloc)?;
-    let harder = domain_roster::harder(alloc)?;
-    let rules = shipped_rules_of(alloc, &schema, defs, closures, harder)?;
-    let domain = domain_of(alloc, b"open_roster", schema, rules, maker)?;
-    Ok(domain)
+    let parts = open_roster_parts(alloc)?;
+    domain_of(alloc, b"open_roster", parts, closures, maker)
+}
+
+/// The two rosters, with their closures and their makers of moves.
+fn rosters_of(
+    alloc: Global,
+    shifts: Closures,
+    open_shifts: Closures,
+    shift_maker: Box<dyn MoveMaker>,
+    open_maker: Box<dyn MoveMaker>,
+) -> Result<(Domain<Shipped>, Domain<Shipped>), Memory>
+    requires shifts { numbers_handed shifts ≡ roster_numbers }
+    requires open_shifts { numbers_handed open_shifts ≡ roster_numbers }
+    ensures views { IfOk result (λ rosters.
+        (domain_view rosters.0 ≡ roster) × (domain_view rosters.1 ≡ open_roster)) }
+    ensures keeps { IfOk result (λ rosters. ⟦<Rules<Shipped> as Kept>⟧.keeps rosters.0.rules
+        × ⟦<Rules<Shipped> as Kept>⟧.keeps rosters.1.rules) }
+    ensures makers { IfOk result (λ rosters. (rosters.0.makers.items ≡ shift_maker ∷ [])
+        × (rosters.1.makers.items ≡ open_maker ∷ [])) }
+{
+    let roster = roster_of(alloc, shifts, shift_maker)?;
+    let open_roster = open_roster_of(alloc, open_shifts, open_maker)?;
+    Ok((roster, open_roster))
 }
 
 /// The domains in their order, with their closures and their makers of moves.
@@ -111,7 +200,6 @@ pub(crate) fn domains_of(
 {
     let (lessons, shifts, open_shifts) = each_of(made);
     let timetable = timetable_of(alloc, lessons, lesson_maker)?;
-    let roster = roster_of(alloc, shifts, shift_maker)?;
-    let open_roster = open_roster_of(alloc, open_shifts, open_maker)?;
+    let (roster, open_roster) = rosters_of(alloc, shifts, open_shifts, shift_maker, open_maker)?;
     Ok([timetable, roster, open_roster])
 }

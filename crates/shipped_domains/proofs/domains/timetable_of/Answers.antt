@@ -1,12 +1,12 @@
-use Rattle.std.proofs.Common.{◌∙◌, codes}
-use Rattle.shipped_domains.proofs.Parts.{shipped_same, timetable_parts}
+use Rattle.std.proofs.Common.{◌∙◌, codes, refl}
+use Rattle.std.proofs.lemmas.Result.{IfOk-weaker}
+use Rattle.shipped_domains.proofs.Parts.{shipped_same}
 use Rattle.shipped_domains.proofs.domains.timetable_of.Goals as goal
+
+pub domain_of-requires-clause-accepted : goal.domain_of-requires-clause-accepted
+domain_of-requires-clause-accepted g c = rw c.requires c.in_ok-parts.ensures.accepted
 
 pub returns-clause-view : goal.returns-clause-view
 returns-clause-view g c =
-    c.in_ok-domain.ensures.view
-    ∙ rw (c.in_ok-rules.ensures.caps, c.in_ok-rules.ensures.defs, c.in_ok-rules.ensures.harder)
-    (shipped_same (codes "timetable") c.in_ok-schema.ensures c.in_ok-defs.ensures.value c.requires c.in_ok-harder.ensures ∙ timetable_parts)
-
-pub returns-clause-keeps : goal.returns-clause-keeps
-returns-clause-keeps g c = rw c.in_ok-domain.ensures.rules c.in_ok-rules.ensures.keeps
+    IfOk-weaker c.domain_of.result _ _ (λ domain view.
+    view ∙ shipped_same (codes "timetable") refl refl c.requires refl ∙ c.in_ok-parts.ensures.view) c.domain_of.ensures.view

@@ -1,4 +1,4 @@
-use Rattle.std.proofs.Common.{◌∙◌, [], ◌∷◌, List, Option, map, inl, inr, refl, sym, ap}
+use Rattle.std.proofs.Common.{◌∙◌, [], ◌∷◌, List, Option, inl, inr, refl, ap}
 use denote.Param.Object.{read_made}
 use Rattle.plan_moves.specs.declared.edit.Set.{Set}
 use Rattle.shipped_domains.proofs.Members.{all_mapped, three_same}

@@ -1,4 +1,3 @@
-use Rattle.std.proofs.Common.{◌≡◌}
 use Rattle.plan_rules.specs.Meaning.{TestAnswers}
 use Rattle.shipped_domains.specs.Meaning.{shipped_test}
 use Rattle.shipped_domains.proofs.Grown.{same_grown, all_grown}

@@ -1,4 +1,4 @@
-use Rattle.std.proofs.Common.{◌≡◌, refl}
+use Rattle.std.proofs.Common.{refl}
 use Rattle.plan_rules.specs.Meaning.{WeighAnswers}
 use Rattle.domain_words.specs.Numbers.{weight_cap}
 use Rattle.shipped_domains.specs.Meaning.{shipped_weight}

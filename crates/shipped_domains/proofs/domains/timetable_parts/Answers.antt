@@ -1,0 +1,12 @@
+use Rattle.std.proofs.Common.{◌∙◌, codes, refl}
+use Rattle.domain_timetable.specs.Names.{timetable_numbers}
+use Rattle.shipped_domains.proofs.Parts.{shipped_same, timetable_parts}
+use Rattle.shipped_domains.proofs.domains.timetable_parts.Goals as goal
+
+pub returns-clause-view : goal.returns-clause-view
+returns-clause-view c =
+    shipped_same {numbers = timetable_numbers} (codes "timetable") c.in_ok-schema.ensures c.in_ok-defs.ensures.value refl c.in_ok-harder.ensures
+    ∙ timetable_parts
+
+pub returns-clause-accepted : goal.returns-clause-accepted
+returns-clause-accepted c = rw (c.in_ok-schema.ensures, c.in_ok-harder.ensures) c.in_ok-defs.ensures.accepted

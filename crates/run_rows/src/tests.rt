@@ -1,0 +1,15 @@
+mod alone;
+mod commands;
+mod counts;
+mod faults;
+mod fed_rows;
+mod full;
+mod gates;
+mod harness;
+mod makers;
+mod parts;
+mod replays;
+mod rows;
+mod runs;
+mod school;
+mod silent;

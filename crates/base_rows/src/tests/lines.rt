@@ -5,7 +5,6 @@ ghost use Rattle.std.specs.Prelude.{◌≤◌};
 use feed_lines::{FeedFault, Lines};
 use plan_ports::{MemSource, Source};
 use std::alloc::{AllocError, Global};
-use std::process::Abort;
 use std::test::Fail;
 
 fn source(alloc: Global, bytes: Vec<u8>, most: usize, fail: &[u32]) -> Result<MemSource, AllocError>
@@ -15,7 +14,7 @@ fn source(alloc: Global, bytes: Vec<u8>, most: usize, fail: &[u32]) -> Result<Me
 }
 
 /// The next line, or why there is none.
-#[derive(Clone, Copy, Debug, PartialEq, Eq)]
+#[derive(Clone, Copy, PartialEq, Eq)]
 enum Next<'a> {
     Line(&'a [u8]),
     Long,
@@ -34,24 +33,23 @@ fn next_of<'a, R: Source>(lines: &'a mut Lines, src: &mut R) -> Next<'a> {
     }
 }
 
-/// Fails where a source of these bytes, in takes of so many bytes, doesn't have these lines.
-fn try_lines(
-    rt: &impl Abort,
-    alloc: Global,
-    bytes: &[u8],
-    most: usize,
-    want: &[&[u8]],
-) -> Result<(), Fail>
+/// Whether these lines come next, and then the end.
+fn come_next(lines: &mut Lines, src: &mut MemSource, want: &[&[u8]]) -> bool {
+    for line in want {
+        if next_of(lines, src) != Next::Line(line) {
+            return false;
+        }
+    }
+    next_of(lines, src) == Next::End
+}
+
+/// Whether a source of these bytes, in takes of so many bytes, has just these lines.
+fn has_lines(alloc: Global, bytes: &[u8], most: usize, want: &[&[u8]]) -> Result<bool, Fail>
     requires { 1 ≤ most }
 {
     let mut src = source(alloc, Vec::from_slice(alloc, bytes)?, most, &[])?;
     let mut lines = Lines::new(alloc);
-    for line in want {
-        assert_eq!(rt; next_of(&mut lines, &mut src), Next::Line(line));
-    }
-    assert_eq!(rt; next_of(&mut lines, &mut src), Next::End);
-    assert_eq!(rt; lines.count() as usize, want.len());
-    Ok(())
+    Ok(come_next(&mut lines, &mut src, want) && lines.count() as usize == want.len())
 }
 
 /// Bytes, and the lines that they are.
@@ -70,7 +68,7 @@ const TEXTS: &[(&[u8], &[&[u8]])] = &[
 fn splits_at_line_feeds_however_the_bytes_come(rt: HostRuntime) -> Result<(), Fail> {
     for (bytes, want) in TEXTS {
         for most in [1, 3, 100] {
-            try_lines(&rt, rt.alloc(), bytes, most, want)?;
+            assert!(rt; has_lines(rt.alloc(), bytes, most, want)?);
         }
     }
     Ok(())
@@ -83,21 +81,35 @@ fn after_xs(alloc: Global, count: usize, rest: &[u8]) -> Result<Vec<u8>, AllocEr
     Ok(bytes)
 }
 
-/// How many bytes the first line has, which must not be too long, and what comes behind it.
+/// Whether a line of so many bytes comes next, or a longer one than is given where there are none.
+fn is_line_of(lines: &mut Lines, src: &mut MemSource, count: Option<usize>) -> bool {
+    match (next_of(lines, src), count) {
+        (Next::Line(line), Some(count)) => line.len() == count,
+        (Next::Long, None) => true,
+        _ => false,
+    }
+}
+
+/// Whether a source of so many bytes `x` and another line, in takes of so many bytes, has a line of
+/// `given` bytes and that other line.
+fn has_two_lines(
+    alloc: Global,
+    count: usize,
+    most: usize,
+    given: Option<usize>,
+) -> Result<bool, Fail>
+    requires { 1 ≤ most }
+{
+    let mut src = source(alloc, after_xs(alloc, count, b"\nab")?, most, &[])?;
+    let mut lines = Lines::new(alloc);
+    let first = is_line_of(&mut lines, &mut src, given);
+    Ok(first && come_next(&mut lines, &mut src, &[b"ab"]) && lines.count() == 2)
+}
+
 #[test]
 fn gives_a_line_of_65536_bytes(rt: HostRuntime) -> Result<(), Fail> {
     for most in [1, 8192, 100_000] {
-        let mut src = source(
-            rt.alloc(),
-            after_xs(rt.alloc(), 65_536, b"\nab")?,
-            most,
-            &[],
-        )?;
-        let mut lines = Lines::new(rt.alloc());
-        assert_eq!(rt; lines.advance(&mut src), Ok(true));
-        assert_eq!(rt; lines.line().map(|line| line.len()), Some(65_536));
-        assert_eq!(rt; next_of(&mut lines, &mut src), Next::Line(b"ab"));
-        assert_eq!(rt; next_of(&mut lines, &mut src), Next::End);
+        assert!(rt; has_two_lines(rt.alloc(), 65_536, most, Some(65_536))?);
     }
     Ok(())
 }
@@ -110,31 +122,38 @@ fn skips_a_longer_line_whole(rt: HostRuntime) -> Result<(), Fail> {
         (65_537, 100_000),
         (1_000_000, 8192),
     ] {
-        let mut src = source(rt.alloc(), after_xs(rt.alloc(), count, b"\nab")?, most, &[])?;
-        let mut lines = Lines::new(rt.alloc());
-        assert_eq!(rt; next_of(&mut lines, &mut src), Next::Long);
-        assert_eq!(rt; next_of(&mut lines, &mut src), Next::Line(b"ab"));
-        assert_eq!(rt; next_of(&mut lines, &mut src), Next::End);
-        assert_eq!(rt; lines.count(), 2);
+        assert!(rt; has_two_lines(rt.alloc(), count, most, None)?);
     }
     Ok(())
 }
 
+/// Whether 4096 lines without bytes come next, and then the last of them.
+fn end_in(lines: &mut Lines, src: &mut MemSource, last: Next) -> bool {
+    for _ in 0..4_096 {
+        if next_of(lines, src) != Next::Line(b"") {
+            return false;
+        }
+    }
+    next_of(lines, src) == last
+}
+
+/// Whether 4096 line feeds and more give 4096 lines, and then this.
+fn gives_4096_lines_and(alloc: Global, more: &[u8], last: Next) -> Result<bool, Fail> {
+    let mut bytes = vec![in alloc; b'\n'; 4_096]?;
+    bytes.extend_from_slice(more)?;
+    let mut src = source(alloc, bytes, 1_000, &[])?;
+    Ok(end_in(&mut Lines::new(alloc), &mut src, last))
+}
+
 #[test]
 fn gives_4096_lines(rt: HostRuntime) -> Result<(), Fail> {
+    let overrun = Next::Fault(FeedFault::Overrun);
     for (more, last) in [
         (b"".as_slice(), Next::End),
-        (b"\n", Next::Fault(FeedFault::Overrun)),
-        (b"x", Next::Fault(FeedFault::Overrun)),
+        (b"\n", overrun),
+        (b"x", overrun),
     ] {
-        let mut bytes = vec![in rt.alloc(); b'\n'; 4_096]?;
-        bytes.extend_from_slice(more)?;
-        let mut src = source(rt.alloc(), bytes, 1_000, &[])?;
-        let mut lines = Lines::new(rt.alloc());
-        for _ in 0..4_096 {
-            assert_eq!(rt; next_of(&mut lines, &mut src), Next::Line(b""));
-        }
-        assert_eq!(rt; next_of(&mut lines, &mut src), last);
+        assert!(rt; gives_4096_lines_and(rt.alloc(), more, last)?);
     }
     Ok(())
 }
@@ -144,11 +163,8 @@ fn fails_where_the_source_does(rt: HostRuntime) -> Result<(), Fail> {
     let bytes = Vec::from_slice(rt.alloc(), b"one\ntwo\n")?;
     let mut src = source(rt.alloc(), bytes, 3, &[2])?;
     let mut lines = Lines::new(rt.alloc());
-    assert_eq!(rt; next_of(&mut lines, &mut src), Next::Line(b"one"));
-    assert_eq!(rt;
-        next_of(&mut lines, &mut src),
-        Next::Fault(FeedFault::ReadFault)
-    );
-    assert_eq!(rt; src.faults(), 1);
+    assert!(rt; next_of(&mut lines, &mut src) == Next::Line(b"one"));
+    assert!(rt; next_of(&mut lines, &mut src) == Next::Fault(FeedFault::ReadFault));
+    assert!(rt; src.faults() == 1);
     Ok(())
 }

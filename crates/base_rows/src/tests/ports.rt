@@ -24,6 +24,16 @@ fn sink(alloc: Global, most: usize, fail: &[u32]) -> Result<MemSink, AllocError>
     Ok(MemSink::new(alloc, most, Vec::from_slice(alloc, fail)?))
 }
 
+/// Whether a take into five bytes gives this piece, or fails where there is none.
+fn gives(src: &mut MemSource, piece: Option<&str>) -> bool {
+    let mut buf = [0u8; 5];
+    match (src.take(&mut buf), piece) {
+        (Ok(n), Some(piece)) => &buf[..n] == piece.as_bytes(),
+        (Err(_), None) => true,
+        _ => false,
+    }
+}
+
 #[test]
 fn a_source_gives_its_bytes_in_pieces_and_fails_at_its_calls(rt: HostRuntime) -> Result<(), Fail> {
     let mut src = source(rt.alloc(), b"abcdefgh", 3, &[1, 4])?;
@@ -37,28 +47,29 @@ fn a_source_gives_its_bytes_in_pieces_and_fails_at_its_calls(rt: HostRuntime) ->
         Some(""),
     ];
     for piece in pieces {
-        let mut buf = [0u8; 5];
-        let taken = src.take(&mut buf).ok().map(|n| n.min(5));
-        assert_eq!(rt; taken, piece.map(|p| p.len()));
-        let n = taken.unwrap_or(0);
-        assert_eq!(rt; &buf[..n], piece.unwrap_or("").as_bytes());
+        assert!(rt; gives(&mut src, piece));
     }
-    assert_eq!(rt; src.faults(), 2);
+    assert!(rt; src.faults() == 2);
     Ok(())
+}
+
+const TEXT: &[u8] = b"score 0hard/0medium/0soft\nend\n";
+
+/// Whether a sink that fails at its put `n` has the front of the text that was put before.
+fn has_front(alloc: Global, n: u32) -> Result<bool, Fail> {
+    let mut out = sink(alloc, 7, &[n])?;
+    let failed = put_all(&mut out, TEXT) == Err(PortFault::Failed);
+    Ok(failed && out.text() == TEXT.get(..7 * n as usize).unwrap_or(b""))
 }
 
 #[test]
 fn a_front_of_the_text_is_written_where_a_put_fails(rt: HostRuntime) -> Result<(), Fail> {
-    let text = b"score 0hard/0medium/0soft\nend\n".as_slice();
     for n in 0..5u32 {
-        let mut out = sink(rt.alloc(), 7, &[n])?;
-        assert_eq!(rt; put_all(&mut out, text), Err(PortFault::Failed));
-        assert_eq!(rt; out.text(), text.get(..7 * n as usize).unwrap_or(b""));
+        assert!(rt; has_front(rt.alloc(), n)?);
     }
     let mut out = sink(rt.alloc(), 7, &[5])?;
-    assert_eq!(rt; put_all(&mut out, text), Ok(()));
-    assert_eq!(rt; put_all(&mut out, b""), Ok(()));
-    assert_eq!(rt; out.text(), text);
+    assert!(rt; put_all(&mut out, TEXT).is_ok() && put_all(&mut out, b"").is_ok());
+    assert!(rt; out.text() == TEXT);
     Ok(())
 }
 
@@ -80,37 +91,47 @@ impl Sink for Full {
 #[test]
 fn a_put_that_takes_nothing_ends_the_text(rt: HostRuntime) {
     let mut out = Full { faults: 0 };
-    assert_eq!(rt; put_all(&mut out, b"end\n"), Err(PortFault::Failed));
-    assert_eq!(rt; put_all(&mut out, b""), Ok(()));
-    assert_eq!(rt; out.faults, 1);
+    assert!(rt; put_all(&mut out, b"end\n") == Err(PortFault::Failed));
+    assert!(rt; put_all(&mut out, b"").is_ok() && out.faults == 1);
+}
+
+/// Whether all of the text is read, or found too long where it doesn't fit into the limit.
+fn is_read(alloc: Global, text: &[u8], limit: u64, most: usize, fits: bool) -> Result<bool, Fail>
+    requires { 1 ≤ most }
+{
+    let mut src = source(alloc, text, most, &[])?;
+    Ok(match read_all(alloc, &mut src, limit) {
+        Ok(bytes) => fits && bytes.as_slice() == text,
+        Err(fault) => !fits && fault == ReadFault::TooLong,
+    })
 }
 
 #[test]
 fn all_is_read_up_to_the_limit(rt: HostRuntime) -> Result<(), Fail> {
     let cases = [
-        ("hello", 5, 9, Ok(())),
-        ("hello", 6, 1, Ok(())),
-        ("hello", 4, 1, Err(ReadFault::TooLong)),
-        ("", 0, 1, Ok(())),
-        ("h", 0, 9, Err(ReadFault::TooLong)),
+        (b"hello".as_slice(), 5, 9, true),
+        (b"hello", 6, 1, true),
+        (b"hello", 4, 1, false),
+        (b"", 0, 1, true),
+        (b"h", 0, 9, false),
     ];
-    for (text, limit, most, want) in cases {
-        let mut src = source(rt.alloc(), text.as_bytes(), most, &[])?;
-        let read = read_all(rt.alloc(), &mut src, limit);
-        assert_eq!(rt; read.as_ref().map(|_| ()).map_err(|e| *e), want);
-        if let Ok(bytes) = read {
-            assert_eq!(rt; bytes.as_slice(), text.as_bytes());
-        }
+    for (text, limit, most, fits) in cases {
+        assert!(rt; is_read(rt.alloc(), text, limit, most, fits)?);
     }
     Ok(())
+}
+
+/// What reading gives where the take `n` of one byte each fails, and how many takes failed.
+fn fails_at(alloc: Global, n: u32) -> Result<bool, Fail> {
+    let mut src = source(alloc, b"hello", 1, &[n])?;
+    let failed = matches!(read_all(alloc, &mut src, 5), Err(ReadFault::Failed));
+    Ok(failed && src.faults() == 1)
 }
 
 #[test]
 fn a_take_that_fails_ends_the_reading(rt: HostRuntime) -> Result<(), Fail> {
     for n in 0..6u32 {
-        let mut src = source(rt.alloc(), b"hello", 1, &[n])?;
-        assert!(rt; matches!(read_all(rt.alloc(), &mut src, 5), Err(ReadFault::Failed)));
-        assert_eq!(rt; src.faults(), 1);
+        assert!(rt; fails_at(rt.alloc(), n)?);
     }
     let mut src = source(rt.alloc(), b"hello", 1, &[6])?;
     assert!(rt; read_all(rt.alloc(), &mut src, 5).is_ok());
@@ -120,13 +141,8 @@ fn a_take_that_fails_ends_the_reading(rt: HostRuntime) -> Result<(), Fail> {
 #[test]
 fn a_long_text_is_read_to_its_last_byte(rt: HostRuntime) -> Result<(), Fail> {
     let text = vec![in rt.alloc(); b'x'; 10_000]?;
-    for (limit, fits) in [(10_000, true), (9_999, false)] {
-        let mut src = source(rt.alloc(), &text, 5_000, &[])?;
-        match read_all(rt.alloc(), &mut src, limit) {
-            Ok(bytes) => assert!(rt; fits && bytes.as_slice() == text.as_slice()),
-            Err(fault) => assert!(rt; !fits && fault == ReadFault::TooLong),
-        }
-    }
+    assert!(rt; is_read(rt.alloc(), &text, 10_000, 5_000, true)?);
+    assert!(rt; is_read(rt.alloc(), &text, 9_999, 5_000, false)?);
     Ok(())
 }
 
@@ -164,6 +180,15 @@ where
     read
 }
 
+/// Whether this was read, or nothing where the reading was to fail.
+fn is_as_wanted(read: &Result<Vec<u8>, ReadFault>, want: Option<&str>) -> bool {
+    match (read, want) {
+        (Ok(bytes), Some(want)) => bytes.as_slice() == want.as_bytes(),
+        (Err(fault), None) => *fault == ReadFault::Failed,
+        _ => false,
+    }
+}
+
 #[test]
 fn a_shelf_opens_the_first_file_of_a_name(rt: HostRuntime) -> Result<(), Fail> {
     let alloc = rt.alloc();
@@ -178,13 +203,7 @@ fn a_shelf_opens_the_first_file_of_a_name(rt: HostRuntime) -> Result<(), Fail> {
         ("p", Some("one")),
     ] {
         let read = fetched(alloc, &mut shelf, name.as_bytes());
-        match want {
-            Some(bytes) => assert!(rt;
-                read.is_ok_and(|r| r.as_slice() == bytes.as_bytes()),
-                "at {name}"
-            ),
-            None => assert!(rt; matches!(read, Err(ReadFault::Failed)), "at {name}"),
-        }
+        assert!(rt; is_as_wanted(&read, want), "at {name}");
     }
     Ok(())
 }
@@ -196,9 +215,9 @@ fn a_shelf_counts_the_files_that_it_has_lent(rt: HostRuntime) -> Result<(), Fail
         panic!(rt; "the file can't be opened");
     };
     assert!(rt; shelf.open(b"p").is_err());
-    assert_eq!(rt; shelf.lent(), 1);
+    assert!(rt; shelf.lent() == 1);
     shelf.close(file);
-    assert_eq!(rt; shelf.lent(), 0);
+    assert!(rt; shelf.lent() == 0);
     Ok(())
 }
 
@@ -208,20 +227,10 @@ fn real_files_are_read_by_name(rt: HostRuntime) -> Result<(), Fail> {
     fs::write(&rt, "plan_ports_test.txt", "two\nlines\n")?;
     let read = fetched(rt.alloc(), &mut shelf, b"plan_ports_test.txt");
     fs::remove_file(&rt, "plan_ports_test.txt")?;
-    assert!(rt; read.is_ok_and(|r| r.as_slice() == b"two\nlines\n".as_slice()));
-    let missing = [
-        b"no such file".as_slice(),
-        b"".as_slice(),
-        b"\xff".as_slice(),
-        b".".as_slice(),
-    ];
-    for name in missing {
-        assert!(rt;
-            matches!(
-                fetched(rt.alloc(), &mut shelf, name),
-                Err(ReadFault::Failed)
-            )
-        );
+    assert!(rt; is_as_wanted(&read, Some("two\nlines\n")));
+    for name in [b"no such file".as_slice(), b"", b"\xff", b"."] {
+        let read = fetched(rt.alloc(), &mut shelf, name);
+        assert!(rt; is_as_wanted(&read, None));
     }
     let Ok(input) = shelf.open(b"@") else {
         panic!(rt; "standard input can't be opened");
@@ -238,10 +247,7 @@ fn written<K: Sink + Send>(out: &mut K, text: &[u8]) -> Result<(), PortFault> {
 #[test]
 fn standard_output_takes_a_text(rt: HostRuntime) {
     let mut out = OutSink::new(&rt);
-    assert_eq!(rt;
-        written(&mut out, b"standard output takes a text\n"),
-        Ok(())
-    );
+    assert!(rt; written(&mut out, b"standard output takes a text\n").is_ok());
 }
 
 // An output that was closed.
@@ -266,7 +272,7 @@ impl Print for Closed {
 fn a_closed_output_fails(rt: HostRuntime) {
     let closed = Closed;
     let mut out = OutSink::new(&closed);
-    assert_eq!(rt; put_all(&mut out, b"end\n"), Err(PortFault::Failed));
+    assert!(rt; put_all(&mut out, b"end\n") == Err(PortFault::Failed));
 }
 
 #[test]

@@ -2,10 +2,18 @@
 
 use crate::plan_score;
 use plan_scores::{Level, PlanScore, Score};
+use std::alloc::Global;
 use std::test::Fail;
 
 fn score(hard: i64, medium: i64, soft: i64) -> Score {
     Score { hard, medium, soft }
+}
+
+/// Whether this is the text of what a plan is worth.
+fn is_text(alloc: Global, plan_score: &PlanScore, text: &str) -> Result<bool, Fail> {
+    let mut out = Vec::from_slice(alloc, b"> ")?;
+    plan_score.write_text(&mut out)?;
+    Ok(out.as_slice().strip_prefix(b"> ".as_slice()) == Some(text.as_bytes()))
 }
 
 #[test]
@@ -23,17 +31,23 @@ fn text_has_three_numbers_behind_the_null_variables(rt: HostRuntime) -> Result<(
         ),
     ];
     for (unplaced, score, text) in cases {
-        let mut out = Vec::from_slice(rt.alloc(), b"> ")?;
-        plan_score(unplaced, score).write_text(&mut out)?;
         assert!(rt;
-            out.as_slice().strip_prefix(b"> ".as_slice()) == Some(text.as_bytes()),
+            is_text(rt.alloc(), &plan_score(unplaced, score), text)?,
             "at {text}"
         );
     }
     let mut out = Vec::new(rt.alloc());
     score(-1, 0, 0).write_text(&mut out)?;
-    assert_eq!(rt; out.as_slice(), b"-1hard/0medium/0soft".as_slice());
+    assert!(rt; out.as_slice() == b"-1hard/0medium/0soft".as_slice());
     Ok(())
+}
+
+/// Whether two of the rising scores, by their places, are compared as the places are.
+fn are_compared(a: &PlanScore, b: &PlanScore, i: usize, j: usize) -> bool {
+    (a < b) == (i < j)
+        && (a >= b) == (i >= j)
+        && (a == b) == (i == j)
+        && (a.unplaced != b.unplaced || (a.score > b.score) == (i > j))
 }
 
 #[test]
@@ -49,28 +63,21 @@ fn null_variables_count_first_then_hard_medium_and_soft_numbers(rt: HostRuntime)
     ];
     for i in 0..rising.len() {
         for j in 0..rising.len() {
-            let (a, b) = (rising[i], rising[j]);
-            assert!(rt; (a < b) == (i < j), "at {i} and {j}");
-            assert!(rt; (a >= b) == (i >= j), "at {i} and {j}");
-            assert!(rt; (a == b) == (i == j), "at {i} and {j}");
-            if a.unplaced == b.unplaced {
-                assert!(rt; (a.score > b.score) == (i > j), "at {i} and {j}");
-            }
+            assert!(rt;
+                are_compared(&rising[i], &rising[j], i, j),
+                "at {i} and {j}"
+            );
         }
     }
 }
 
 #[test]
 fn what_was_added_can_be_taken_away(rt: HostRuntime) {
-    let sum = Score::at(Level::Hard, -7).add(&Score::at(Level::Soft, 4));
-    assert_eq!(rt; sum, score(-7, 0, 4));
-    assert_eq!(rt;
-        sum.minus(&Score::at(Level::Soft, 4)),
-        Score::at(Level::Hard, -7)
-    );
-    assert_eq!(rt;
-        Score::zero().minus(&Score::at(Level::Medium, 3)),
-        score(0, -3, 0)
-    );
-    assert_eq!(rt; Score::zero(), score(0, 0, 0));
+    let hard = Score::at(Level::Hard, -7);
+    let soft = Score::at(Level::Soft, 4);
+    let sum = hard.add(&soft);
+    assert!(rt; sum == score(-7, 0, 4) && sum.minus(&soft) == hard);
+    let zero = Score::zero();
+    let less = zero.minus(&Score::at(Level::Medium, 3));
+    assert!(rt; zero == score(0, 0, 0) && less == score(0, -3, 0));
 }

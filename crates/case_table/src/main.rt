@@ -16,7 +16,6 @@ use std::sync::Wait;
 use std::thread::Threads;
 use std::{env, io};
 
-
 /// Runs one command, and prints its status.
 fn run_case<T: Threads + Wait + Sync>(
     rt: &HostRuntime,

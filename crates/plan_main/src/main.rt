@@ -14,7 +14,6 @@ use std::sync::Wait;
 use std::thread::Threads;
 use std::{env, io};
 
-
 /// The words after the program's name. Where one of them isn't UTF-8 there are none, so that they are no command.
 fn words_of(rt: &HostRuntime, alloc: Global) -> Result<Vec<Text>, Memory> {
     let mut words = Vec::new(alloc);

@@ -1,24 +1,27 @@
-//! The timetable with one rule alone, that rooms are large enough, and a test and a weigher of ours.
+//! The timetable with one rule alone, that rooms are large enough, and a test and a weigher of ours that count their calls.
 ghost use Rattle.std.specs.Prelude.{All, IfOk, IsTrue};
 ghost use Rattle.plan_facts.specs.Schema.{is_name};
 
-use super::harness::{Asked, Lost, filled, run_one, solved};
-use crate::ROOM_SIZE;
+use super::harness::{Asked, Lost, Outcome, filled, run_one, solved};
+use crate::{ROOM_SIZE, counted_test, counted_weight};
 use domain_words::{one_node, weighed_penalty};
 use plan_facts::{List, Memory, Text};
 use plan_json::Domain;
 use plan_rules::{Head, Kept, Node, RuleDef, RuleFault, Rules, Test, TestBody, Weigh, WeighBody};
 use plan_scores::Level;
 use plan_session::Status;
-use shipped_domains::{Row, Shipped, shipped_test, shipped_weight};
+use shipped_domains::{Row, Shipped};
 use std::alloc::Global;
+use std::sync::atomic::{AtomicU64, Ordering};
+use std::sync::{Arc, Wait};
 use std::test::Fail;
+use std::thread::Threads;
 
 /// The number of the timetable's class of lessons.
 const LESSON: u8 = 2;
 
 /// A list of one test.
-pub(super) fn one_test(alloc: Global, test: Test<Shipped>) -> Result<List<Test<Shipped>>, Memory>
+fn one_test(alloc: Global, test: Test<Shipped>) -> Result<List<Test<Shipped>>, Memory>
     requires { ⟦<Test<Shipped> as Kept>⟧.keeps test }
     ensures { IfOk result (λ tests. All (λ test. ⟦<Test<Shipped> as Kept>⟧.keeps test) tests) }
 {
@@ -28,10 +31,7 @@ pub(super) fn one_test(alloc: Global, test: Test<Shipped>) -> Result<List<Test<S
 }
 
 /// A list of one weigher.
-pub(super) fn one_weigher(
-    alloc: Global,
-    weigher: Weigh<Shipped>,
-) -> Result<List<Weigh<Shipped>>, Memory>
+fn one_weigher(alloc: Global, weigher: Weigh<Shipped>) -> Result<List<Weigh<Shipped>>, Memory>
     requires { ⟦<Weigh<Shipped> as Kept>⟧.keeps weigher }
     ensures { IfOk result (λ weighers. All (λ weigher. ⟦<Weigh<Shipped> as Kept>⟧.keeps weigher) weighers) }
 {
@@ -59,7 +59,7 @@ fn named(alloc: Global, name: &[u8]) -> Result<Text, Memory>
 }
 
 /// The timetable with that rule alone.
-pub(super) fn timetable(
+fn timetable(
     alloc: Global,
     tests: List<Test<Shipped>>,
     weighers: List<Weigh<Shipped>>,
@@ -75,6 +75,54 @@ pub(super) fn timetable(
     let harder = List::new(alloc);
     let rules = Rules::build(alloc, &schema, defs, tests, keys, weighers, harder)?;
     Ok(Domain::new(name, schema, rules, Vec::new(alloc)))
+}
+
+/// What a run came to, and how often closures were asked.
+#[derive(Drop)]
+pub(super) struct Counted {
+    pub outcome: Outcome,
+    pub calls: u64,
+}
+
+/// A run in domains of the closures that come with the solver, or of such as answer the same.
+fn run_among<T: Threads + Wait + Sync>(
+    rt: &T,
+    alloc: Global,
+    asked: &Asked,
+    domains: &[Domain<Shipped>],
+) -> Result<Outcome, Memory>
+    requires keeps { All (λ domain. ⟦<Rules<Shipped> as Kept>⟧.keeps domain.rules) domains.now }
+{
+    run_one(rt, alloc, asked, domains)
+}
+
+/// A run in the timetable with the rule alone, whose test and weigher count their calls.
+pub(super) fn run_counted<T: Threads + Wait + Sync>(
+    rt: &T,
+    alloc: Global,
+    asked: &Asked,
+) -> Result<Counted, RuleFault> {
+    let Ok(calls) = Arc::new(alloc, AtomicU64::new(0)) else {
+        return Err(RuleFault::Memory);
+    };
+    let tested = Arc::try_clone(&calls)?;
+    let weighed = Arc::try_clone(&calls)?;
+    let Ok(test) = Box::new(alloc, move |row: &Row| -> bool {
+        counted_test(&tested, row)
+    }) else {
+        return Err(RuleFault::Memory);
+    };
+    let Ok(weigher) = Box::new(alloc, move |row: &Row| -> u32 {
+        counted_weight(&weighed, row)
+    }) else {
+        return Err(RuleFault::Memory);
+    };
+    let tests = one_test(alloc, Test::new(ROOM_SIZE, test))?;
+    let weighers = one_weigher(alloc, Weigh::new(ROOM_SIZE, 10_000, weigher))?;
+    let domains = [timetable(alloc, tests, weighers)?];
+    let outcome = run_among(rt, alloc, asked, &domains)?;
+    let calls = calls.load(Ordering::SeqCst);
+    Ok(Counted { outcome, calls })
 }
 
 /// Two timeslots, a room that is too small for a lesson, a room that isn't, and two lessons.
@@ -109,24 +157,20 @@ fn asked_unwritten(alloc: Global) -> Result<Asked, Memory> {
     Ok(asked)
 }
 
-/// The timetable with the rule alone, whose closures are those that come with the solver.
-fn shipped_alone(alloc: Global) -> Result<Domain<Shipped>, Fail>
-    ensures keeps { IfOk result (λ domain. ⟦<Rules<Shipped> as Kept>⟧.keeps domain.rules) }
-{
-    let is_small: TestBody = Box::new(alloc, |row: &Row| -> bool { shipped_test(0, row) })?;
-    let seats: WeighBody = Box::new(alloc, |row: &Row| -> u32 { shipped_weight(0, row) })?;
-    let tests = one_test(alloc, Test::new(0, is_small))?;
-    let weighers = one_weigher(alloc, Weigh::new(0, 10_000, seats))?;
-    Ok(timetable(alloc, tests, weighers)?)
+/// Whether a run of the rule alone writes and ends as is due.
+fn stands_alone<T: Threads + Wait + Sync>(
+    rt: &T,
+    alloc: Global,
+    asked: &Asked,
+) -> Result<bool, RuleFault> {
+    let counted = run_counted(rt, alloc, asked)?;
+    Ok(counted.outcome.is_due)
 }
 
 #[test]
 fn a_rule_may_stand_alone(rt: HostRuntime) -> Result<(), Fail> {
     let alloc = rt.alloc();
-    let domains = [shipped_alone(alloc)?];
-    let placed = run_one(&rt, alloc, &asked_small(alloc)?, &domains)?;
-    assert!(rt; placed.is_due);
-    let failed = run_one(&rt, alloc, &asked_unwritten(alloc)?, &domains)?;
-    assert!(rt; failed.is_due);
+    assert!(rt; stands_alone(&rt, alloc, &asked_small(alloc)?)?);
+    assert!(rt; stands_alone(&rt, alloc, &asked_unwritten(alloc)?)?);
     Ok(())
 }

@@ -1,14 +1,11 @@
 //! Eight workers ask closures hardly more often than one.
-use super::alone::{one_test, one_weigher, timetable};
-use super::harness::{Asked, run_one, solved};
-use crate::{ROOM_SIZE, counted_test, counted_weight};
+use super::alone::{Counted, run_counted};
+use super::harness::{Asked, solved};
 use plan_facts::Memory;
-use plan_rules::{RuleFault, Test, Weigh};
+use plan_rules::RuleFault;
 use plan_session::Status;
-use shipped_domains::Row;
 use std::alloc::Global;
-use std::sync::atomic::{AtomicU64, Ordering};
-use std::sync::{Arc, Wait};
+use std::sync::Wait;
 use std::test::Fail;
 use std::thread::Threads;
 
@@ -56,14 +53,6 @@ fn hundred_lessons(alloc: Global) -> Result<Vec<u8>, Memory> {
     Ok(out)
 }
 
-/// What a run wrote, how it ended, and how often closures were asked.
-#[derive(Drop)]
-struct Counted {
-    text: Vec<u8>,
-    status: Status,
-    calls: u64,
-}
-
 /// The hundred lessons by so many workers as the words say.
 fn asked_of(alloc: Global, words: &'static str) -> Result<Asked, Memory> {
     let mut asked = solved(alloc, hundred_lessons(alloc)?);
@@ -71,51 +60,21 @@ fn asked_of(alloc: Global, words: &'static str) -> Result<Asked, Memory> {
     Ok(asked)
 }
 
-/// Runs these words in the timetable whose test and weigher count their calls.
-fn run_counted<T: Threads + Wait + Sync>(
-    rt: &T,
-    alloc: Global,
-    words: &'static str,
-) -> Result<Counted, RuleFault> {
-    let Ok(calls) = Arc::new(alloc, AtomicU64::new(0)) else {
-        return Err(RuleFault::Memory);
-    };
-    let tested = Arc::try_clone(&calls)?;
-    let weighed = Arc::try_clone(&calls)?;
-    let Ok(test) = Box::new(alloc, move |row: &Row| -> bool {
-        counted_test(&tested, row)
-    }) else {
-        return Err(RuleFault::Memory);
-    };
-    let Ok(weigher) = Box::new(alloc, move |row: &Row| -> u32 {
-        counted_weight(&weighed, row)
-    }) else {
-        return Err(RuleFault::Memory);
-    };
-    let tests = one_test(alloc, Test::new(ROOM_SIZE, test))?;
-    let weighers = one_weigher(alloc, Weigh::new(ROOM_SIZE, 10_000, weigher))?;
-    let domains = [timetable(alloc, tests, weighers)?];
-    let outcome = run_one(rt, alloc, &asked_of(alloc, words)?, &domains)?;
-    let calls = calls.load(Ordering::SeqCst);
-    Ok(Counted {
-        text: outcome.text,
-        status: outcome.status,
-        calls,
-    })
-}
-
 /// Whether a run ended well and asked closures seldom enough.
 fn is_sparing(run: &Counted) -> bool {
-    run.status == Status::Ok && run.calls <= MOST_CALLS
+    run.outcome.status == Status::Ok && run.calls <= MOST_CALLS
+}
+
+/// Whether one worker and eight write the same of the hundred lessons, and ask closures seldom enough.
+fn are_sparing<T: Threads + Wait + Sync>(rt: &T, alloc: Global) -> Result<bool, RuleFault> {
+    let alone = run_counted(rt, alloc, &asked_of(alloc, "solve p")?)?;
+    let together = run_counted(rt, alloc, &asked_of(alloc, "solve p --workers 8")?)?;
+    let is_same = together.outcome.text.as_slice() == alone.outcome.text.as_slice();
+    Ok(is_sparing(&alone) && is_sparing(&together) && is_same)
 }
 
 #[test]
 fn workers_ask_no_closure_anew(rt: HostRuntime) -> Result<(), Fail> {
-    let alloc = rt.alloc();
-    let alone = run_counted(&rt, alloc, "solve p")?;
-    let together = run_counted(&rt, alloc, "solve p --workers 8")?;
-    assert!(rt; is_sparing(&alone), "{} calls", alone.calls);
-    assert!(rt; is_sparing(&together), "{} calls", together.calls);
-    assert!(rt; together.text.as_slice() == alone.text.as_slice());
+    assert!(rt; are_sparing(&rt, rt.alloc())?);
     Ok(())
 }

@@ -62,7 +62,7 @@ pub(super) struct Asked {
     pub status: Status,
 }
 
-/// `solve` of a problem, in which no call fails and all is taken at once, and of which nothing is due but that it ends well.
+/// `solve` of a problem, in which no call fails and all is taken at once. Its text is still to be said.
 pub(super) fn solved(alloc: Global, problem: Vec<u8>) -> Asked {
     Asked {
         words: "solve p",

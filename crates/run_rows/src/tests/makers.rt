@@ -1,8 +1,8 @@
 //! Makers of moves that give nothing that can be done: a step has no candidate then.
 ghost use Rattle.std.specs.Prelude.{◌≡◌, ◌∷◌, [], IfOk};
 
-use super::harness::{Asked, filled, run_one, solved};
-use super::silent::Silent;
+use super::harness::{Asked, filled, solved};
+use super::silent::{Silent, first_wrong_among};
 use plan_facts::{List, Memory, Plan, Text, is_name};
 use plan_json::Domain;
 use plan_moves::{Edit, MoveMaker, Set};
@@ -98,8 +98,8 @@ fn leaves_the_plan<T: Threads + Wait + Sync>(
     let sets = Vec::from_slice(alloc, sets)?;
     let maker: Box<dyn MoveMaker> = Box::new(alloc, Stubborn { gives, sets })?;
     let domains = [ruleless(alloc, maker)?];
-    let outcome = run_one(threads, alloc, &asked_step(alloc)?, &domains)?;
-    Ok(outcome.is_due)
+    let asked = [asked_step(alloc)?];
+    Ok(first_wrong_among(threads, alloc, &asked, &domains)? == None)
 }
 
 /// A set of a lesson that there isn't.

@@ -1,9 +1,9 @@
 //! Commands over memory in a domain of one rule that asks no closure.
 ghost use Rattle.std.specs.Prelude.{IfOk};
 
-use super::harness::{Asked, Lost, first_undue, run_each, solved};
+use super::harness::{Asked, Lost, solved};
 use super::replays::{JOURNALS, OPENS, REPLAYS, Replay, UNKNOWN, refused, unopened};
-use super::silent::Silent;
+use super::silent::{Silent, first_wrong_among};
 use plan_facts::Kind::{Name, Number};
 use plan_facts::{List, Memory, Text, is_name};
 use plan_json::Domain;
@@ -73,8 +73,7 @@ fn first_wrong<T: Threads + Wait + Sync>(
     asked: &[Asked],
 ) -> Result<Option<usize>, Fail> {
     let domains = [school(alloc)?];
-    let outcomes = run_each(threads, alloc, asked, &domains)?;
-    Ok(first_undue(&outcomes))
+    Ok(first_wrong_among(threads, alloc, asked, &domains)?)
 }
 
 /// The program's words, the text of `p` and the call that fails; then what is written, and the status.

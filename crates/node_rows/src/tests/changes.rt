@@ -215,22 +215,30 @@ fn see_both_sides(
     })
 }
 
-#[test]
-fn records_that_changed_go_and_come(rt: HostRuntime) -> Result<(), Fail> {
-    let alloc = rt.alloc();
+/// What is seen of new heads where the first tasks come and change.
+fn changed(alloc: Global) -> Result<Seen, Fail> {
     let mut heads = Heads::new(alloc);
     let mut changes = [ClassChange::new(alloc), ClassChange::new(alloc)];
-    let seen = see_change(alloc, &mut heads, &mut changes)?;
+    see_change(alloc, &mut heads, &mut changes)
+}
+
+/// What is seen of new heads where both sides of a change are let go.
+fn let_go(alloc: Global) -> Result<Seen, Fail> {
+    let mut heads = Heads::new(alloc);
+    let mut changes = [ClassChange::new(alloc), ClassChange::new(alloc)];
+    see_both_sides(alloc, &mut heads, &mut changes)
+}
+
+#[test]
+fn records_that_changed_go_and_come(rt: HostRuntime) -> Result<(), Fail> {
+    let seen = changed(rt.alloc())?;
     assert!(rt; seen.gone && seen.come && seen.placed && seen.stays);
     Ok(())
 }
 
 #[test]
 fn records_that_came_or_went_are_let_go(rt: HostRuntime) -> Result<(), Fail> {
-    let alloc = rt.alloc();
-    let mut heads = Heads::new(alloc);
-    let mut changes = [ClassChange::new(alloc), ClassChange::new(alloc)];
-    let seen = see_both_sides(alloc, &mut heads, &mut changes)?;
+    let seen = let_go(rt.alloc())?;
     assert!(rt; seen.gone && seen.come && seen.placed && seen.stays);
     Ok(())
 }

@@ -1,99 +1,129 @@
 //! A store: rows under numbers, as they come and go in trials, beside plain lists too.
-ghost use Rattle.std.specs.Prelude.{◌≡◌, OnOk};
+ghost use Rattle.std.specs.Prelude.{◌≡◌, ◌<◌, false, length, IfSome, OnOk};
 
 use super::fixtures::drawn;
 use std::alloc::Global;
-use std::process::Abort;
 use std::test::Fail;
 use tuple_store::{Memory, Store};
 
-/// The live numbers and their rows, in order.
-fn contents(rt: &impl Abort, alloc: Global, store: &Store<u32>) -> Result<Vec<(u64, u32)>, Memory> {
-    let mut all = Vec::new(alloc);
-    let mut at = store.next(None);
-    for _ in 0..u32::MAX {
-        let Some(n) = at else {
-            break;
-        };
-        let row = store.live(n).expect(rt, "a number of the walk is live");
-        all.push((n, *row))?;
-        at = store.next(Some(n));
+/// Whether just these numbers are live, in this order, with these rows.
+fn has_rows(store: &Store<u32>, rows: &[(u64, u32)]) -> bool {
+    let mut last = None;
+    for (number, row) in rows {
+        if store.next(last) != Some(*number) || !is_live(store, *number, *row) {
+            return false;
+        }
+        last = Some(*number);
     }
-    Ok(all)
+    store.next(last).is_none()
+}
+
+/// Whether a number is live with this row.
+fn is_live(store: &Store<u32>, number: u64, row: u32) -> bool {
+    match store.live(number) {
+        Some(live) => *live == row,
+        None => false,
+    }
+}
+
+/// Kills the row of a number, if it is live. Whether it was.
+fn kill_live(store: &mut Store<u32>, number: u64) -> bool
+    ensures { store.new.is_open ≡ store.old.is_open }
+{
+    if store.live(number).is_none() {
+        return false;
+    }
+    store.kill(number);
+    true
+}
+
+/// Whether a row that a trial kills is gone within the trial alone, and one that it adds is there within it alone.
+fn kills_for_a_trial(store: &mut Store<u32>) -> Result<bool, Memory>
+    requires { store.old.is_open ≡ false }
+{
+    let n = store.add(7)?;
+    store.begin();
+    let was_live = kill_live(store, n);
+    let v = store.add(8)?;
+    let within = is_live(store, v, 8) && store.live(n).is_none();
+    store.rollback();
+    Ok(was_live && within && has_rows(store, &[(n, 7)]))
 }
 
 #[test]
 fn a_rolled_back_trial_leaves_the_contents_of_a_store(rt: HostRuntime) -> Result<(), Fail> {
     let mut store = Store::new(rt.alloc());
-    let n = store.add(7)?;
-    store.begin();
-    assert!(rt; store.live(n).is_some());
-    store.kill(n);
-    let v = store.add(8)?;
-    assert_eq!(rt; store.live(v).copied(), Some(8));
-    assert_eq!(rt; store.live(n).copied(), None);
-    store.rollback();
-    assert_eq!(rt; store.live(n).copied(), Some(7));
-    assert_eq!(rt; store.next(None), Some(n));
-    assert_eq!(rt; store.next(Some(n)), None);
+    assert!(rt; kills_for_a_trial(&mut store)?);
     Ok(())
+}
+
+/// Whether rows that a trial adds and kills are gone after it, and one that it kills of before is back.
+fn takes_all_back(store: &mut Store<u32>) -> Result<bool, Memory>
+    requires { store.old.is_open ≡ false }
+{
+    let v = store.add(1)?;
+    store.begin();
+    let u = store.add(2)?;
+    let were_live = kill_live(store, u) && kill_live(store, v);
+    store.add(3)?;
+    store.rollback();
+    Ok(were_live && has_rows(store, &[(v, 1)]))
 }
 
 #[test]
 fn rows_of_a_store_added_and_killed_in_one_trial_are_gone_after_it(
     rt: HostRuntime,
 ) -> Result<(), Fail> {
-    let alloc = rt.alloc();
-    let mut store = Store::new(alloc);
-    let v = store.add(1)?;
-    store.begin();
-    let u = store.add(2)?;
-    assert!(rt; store.live(u).is_some());
-    store.kill(u);
-    assert!(rt; store.live(v).is_some());
-    store.kill(v);
-    store.add(3)?;
-    store.rollback();
-    let left = contents(&rt, alloc, &store)?;
-    assert_eq!(rt; left.as_slice(), [(v, 1)].as_slice());
+    let mut store = Store::new(rt.alloc());
+    assert!(rt; takes_all_back(&mut store)?);
     Ok(())
+}
+
+/// Whether what a trial adds and kills stays so after it, and a number that it frees is used again then, but not within it.
+fn frees_a_number(store: &mut Store<u32>) -> Result<bool, Memory>
+    requires { store.old.is_open ≡ false }
+{
+    let a = store.add(10)?;
+    let b = store.add(20)?;
+    store.begin();
+    let was_live = kill_live(store, a);
+    let c = store.add(30)?;
+    store.commit();
+    let stays = has_rows(store, &[(b, 20), (c, 30)]);
+    let d = store.add(40)?;
+    Ok(was_live && c != a && stays && d == a)
 }
 
 #[test]
 fn a_committed_trial_of_a_store_stays_and_frees_its_killed_numbers(
     rt: HostRuntime,
 ) -> Result<(), Fail> {
-    let alloc = rt.alloc();
-    let mut store = Store::new(alloc);
-    let a = store.add(10)?;
-    let b = store.add(20)?;
-    store.begin();
-    assert!(rt; store.live(a).is_some());
-    store.kill(a);
-    let c = store.add(30)?;
-    assert_ne!(rt; c, a, "a rollback could bring it back");
-    store.commit();
-    let kept = contents(&rt, alloc, &store)?;
-    assert_eq!(rt; kept.as_slice(), [(b, 20), (c, 30)].as_slice());
-    let d = store.add(40)?;
-    assert_eq!(rt; d, a, "the number of a killed row is used again");
+    let mut store = Store::new(rt.alloc());
+    assert!(rt; frees_a_number(&mut store)?);
     Ok(())
+}
+
+/// Whether the last of 200 rows is found where the others were killed.
+fn finds_the_last(store: &mut Store<u32>) -> Result<bool, Memory> {
+    for row in 0..200u32 {
+        store.add(row)?;
+    }
+    for n in 0..199u64 {
+        if !kill_live(store, n) {
+            return Ok(false);
+        }
+    }
+    Ok(
+        has_rows(store, &[(199, 199)])
+            && store.next(Some(u64::MAX)).is_none()
+            && store.live(u64::MAX).is_none(),
+    )
 }
 
 #[test]
 fn numbers_past_the_words_of_a_store_are_found(rt: HostRuntime) -> Result<(), Fail> {
     let mut store = Store::new(rt.alloc());
-    for row in 0..200u32 {
-        store.add(row)?;
-    }
-    for n in 0..199u64 {
-        assert!(rt; store.live(n).is_some());
-        store.kill(n);
-    }
-    assert_eq!(rt; store.next(None), Some(199));
-    assert_eq!(rt; store.next(Some(199)), None);
-    assert_eq!(rt; store.next(Some(u64::MAX)), None);
-    assert_eq!(rt; store.live(u64::MAX).copied(), None);
+    assert!(rt; finds_the_last(&mut store)?);
     Ok(())
 }
 
@@ -105,61 +135,65 @@ struct Plain {
     in_trial: bool,
 }
 
-fn add_row(
-    rt: &impl Abort,
-    store: &mut Store<u32>,
-    plain: &mut Plain,
-    row: u32,
-) -> Result<(), Memory>
+/// Where the row of a number stands.
+fn place_of(rows: &[(u64, u32)], number: u64) -> Option<usize>
+    ensures { IfSome result (λ place. place < length rows.now) }
+{
+    for place in 0..rows.len() {
+        if rows[place].0 == number {
+            return Some(place);
+        }
+    }
+    None
+}
+
+/// Adds a row to both. Whether its number was free.
+fn add_row(store: &mut Store<u32>, plain: &mut Plain, row: u32) -> Result<bool, Memory>
     ensures open { store.new.is_open ≡ store.old.is_open }
     ensures in_trial { plain.new.in_trial ≡ plain.old.in_trial }
 {
     let n = store.add(row)?;
-    for (number, _) in plain.rows.as_slice() {
-        assert_ne!(rt; *number, n, "the number was live");
+    if place_of(&plain.rows, n).is_some() {
+        return Ok(false);
     }
     plain.rows.push((n, row))?;
-    Ok(())
+    Ok(true)
 }
 
-fn kill_row(rt: &impl Abort, store: &mut Store<u32>, plain: &mut Plain, after: u64)
+/// Takes the row of a number out of a plain list.
+fn take_row(rows: &mut Vec<(u64, u32)>, number: u64) -> Option<u32> {
+    let place = place_of(rows, number)?;
+    Some(rows.remove(place).1)
+}
+
+/// Kills the next row after a number in both. Whether both had it.
+fn kill_row(store: &mut Store<u32>, plain: &mut Plain, after: u64) -> bool
     ensures open { store.new.is_open ≡ store.old.is_open }
     ensures in_trial { plain.new.in_trial ≡ plain.old.in_trial }
 {
     let Some(n) = store.next(Some(after)) else {
-        return;
+        return true;
     };
-    let row = store.live(n).copied().expect(rt, "the next number is live");
-    store.kill(n);
-    let place = plain
-        .rows
-        .iter()
-        .position(|entry| entry.0 == n)
-        .expect(rt, "it was added");
-    assert!(rt; place < plain.rows.len());
-    assert_eq!(rt; plain.rows.remove(place), (n, row));
+    match take_row(&mut plain.rows, n) {
+        Some(row) => is_live(store, n, row) && kill_live(store, n),
+        None => false,
+    }
 }
 
-fn compare(
-    rt: &impl Abort,
-    alloc: Global,
-    store: &Store<u32>,
-    plain: &Plain,
-) -> Result<(), Memory> {
-    let found = contents(rt, alloc, store)?;
+/// Whether a store holds just the plain rows.
+fn is_like(alloc: Global, store: &Store<u32>, plain: &Plain) -> Result<bool, Memory> {
     let mut wanted = Vec::from_slice(alloc, plain.rows.as_slice())?;
     wanted.sort()?;
-    assert_eq!(rt; found.as_slice(), wanted.as_slice());
-    Ok(())
+    Ok(has_rows(store, &wanted))
 }
 
+/// Opens a trial, or ends the open one. Whether both hold the same after it.
 fn turn_trial(
-    rt: &impl Abort,
     alloc: Global,
     store: &mut Store<u32>,
     plain: &mut Plain,
     keeps: bool,
-) -> Result<(), Memory>
+) -> Result<bool, Memory>
     requires { store.old.is_open ≡ plain.old.in_trial }
     ensures { OnOk result (store.new.is_open ≡ plain.new.in_trial) }
 {
@@ -167,7 +201,7 @@ fn turn_trial(
         plain.base = Vec::from_slice(alloc, plain.rows.as_slice())?;
         store.begin();
         plain.in_trial = true;
-        return Ok(());
+        return Ok(true);
     }
     if keeps {
         store.commit();
@@ -176,28 +210,36 @@ fn turn_trial(
         store.rollback();
     }
     plain.in_trial = false;
-    compare(rt, alloc, store, plain)
+    is_like(alloc, store, plain)
 }
 
-fn step(
-    rt: &impl Abort,
-    alloc: Global,
-    store: &mut Store<u32>,
-    plain: &mut Plain,
-    word: u64,
-) -> Result<(), Memory>
+/// One step of a generated run. Whether both do the same.
+fn step(alloc: Global, store: &mut Store<u32>, plain: &mut Plain, word: u64) -> Result<bool, Memory>
     requires { store.old.is_open ≡ plain.old.in_trial }
     ensures { OnOk result (store.new.is_open ≡ plain.new.in_trial) }
 {
     let choice = word % 16;
     if choice == 0 {
-        return turn_trial(rt, alloc, store, plain, word / 16 % 2 == 0);
+        return turn_trial(alloc, store, plain, word / 16 % 2 == 0);
     }
     if choice < 9 && plain.rows.len() < 200 {
-        return add_row(rt, store, plain, (word >> 32) as u32);
+        return add_row(store, plain, (word >> 32) as u32);
     }
-    kill_row(rt, store, plain, word / 16 % 256);
-    Ok(())
+    Ok(kill_row(store, plain, word / 16 % 256))
+}
+
+/// Whether a store and plain lists do the same in a generated run.
+fn all_steps(alloc: Global, store: &mut Store<u32>, plain: &mut Plain) -> Result<bool, Memory>
+    requires { store.old.is_open ≡ plain.old.in_trial }
+{
+    let mut word = 88172645463325252;
+    for _ in 0..100000u32 {
+        word = drawn(word);
+        if !step(alloc, store, plain, word)? {
+            return Ok(false);
+        }
+    }
+    is_like(alloc, store, plain)
 }
 
 #[test]
@@ -209,11 +251,6 @@ fn a_generated_run_of_a_store_agrees_with_plain_lists(rt: HostRuntime) -> Result
         base: Vec::new(alloc),
         in_trial: false,
     };
-    let mut word = 88172645463325252;
-    for _ in 0..100000u32 {
-        word = drawn(word);
-        step(&rt, alloc, &mut store, &mut plain, word)?;
-    }
-    compare(&rt, alloc, &store, &plain)?;
+    assert!(rt; all_steps(alloc, &mut store, &mut plain)?);
     Ok(())
 }

@@ -311,8 +311,11 @@ fn joined(alloc: Global, text: &str) -> Result<Vec<u8>, Fail> {
 
 /// Whether the problem of this number and size is the one that the other program made.
 fn is_made(alloc: Global, case: &Case) -> Result<bool, Fail> {
+    if case.size < 1 || case.size > 10_000 {
+        return Ok(false);
+    }
     let mut out = Vec::new(alloc);
-    problem_text(case.number, case.size.clamp(1, 10_000), &mut out)?;
+    problem_text(case.number, case.size, &mut out)?;
     Ok(out == joined(alloc, case.text)?)
 }
 

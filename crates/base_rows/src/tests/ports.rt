@@ -121,7 +121,7 @@ fn all_is_read_up_to_the_limit(rt: HostRuntime) -> Result<(), Fail> {
     Ok(())
 }
 
-/// What reading gives where the take `n` of one byte each fails, and how many takes failed.
+/// Whether reading fails where the take `n` of one byte each does, and just that one is counted.
 fn fails_at(alloc: Global, n: u32) -> Result<bool, Fail> {
     let mut src = source(alloc, b"hello", 1, &[n])?;
     let failed = matches!(read_all(alloc, &mut src, 5), Err(ReadFault::Failed));

@@ -1,83 +1,60 @@
-ghost use Rattle.std.specs.Prelude.{◌≡◌, ◌<◌, All, IfOk, None, OnOk, length};
+ghost use Rattle.std.specs.Prelude.{◌≡◌, ◌<◌, All, IfOk, None, OnOk};
 ghost use Rattle.plan_changes.specs.Fits.{IsOfSchema};
 ghost use Rattle.plan_json.specs.Seen.{FitsItsDomain, IsAcceptedBy};
 ghost use Rattle.plan_rules.specs.Range.{sizes_of};
-ghost use Rattle.score_director.specs.View.{at_rest, attempted};
+ghost use Rattle.score_director.specs.View.{at_rest};
 
 mod cases;
 mod changes;
 mod feeds;
 mod lines;
 mod made;
+mod outcome;
 mod ranges;
+mod rows;
 mod snapshot;
 
-use crate::part_number;
 use cases::{CASES, Case, Seen};
 use plan_facts::{List, Memory, Plan, Schema};
 use plan_json::{Domain, Problem, read_problem};
 use plan_moves::{Edit, Set};
-use plan_rules::{Judges, Kept, Match, Row, Rules, Steps};
+use plan_rules::{Judges, Kept, Match, Rules, Steps};
 use plan_scores::PlanScore;
+use rows::{OnlyRow, is_only_match, is_only_row};
 use score_director::{Director, totals_by_network};
 use shipped_domains::{Act, Shipped, with_shipped_domains};
 use std::alloc::Global;
 use std::marker::Brand;
-use std::process::Abort;
 use std::sync::ledger::{Blank, Ledger};
 use std::test::Fail;
 
-/// Whether the parts of a row have these numbers.
-fn is_row(row: &Row, numbers: &[i64]) -> bool {
-    for (place, number) in numbers.iter().enumerate() {
-        match row.part(place) {
-            Some(part) if part_number(part) == *number => {}
-            _ => return false,
-        }
-    }
-    row.len() == numbers.len()
-}
-
-/// Whether the parts of these rows have these numbers.
-fn are_rows(rows: &[Row], wanted: &[&[i64]]) -> bool {
-    for (row, numbers) in rows.iter().zip(wanted) {
-        if !is_row(row, numbers) {
-            return false;
-        }
-    }
-    rows.len() == wanted.len()
-}
-
-/// Whether the parts of the rows of these matches have these numbers.
-fn are_matches(matches: &[Match], wanted: &[&[i64]]) -> bool {
-    for (one, numbers) in matches.iter().zip(wanted) {
-        if !is_row(&one.row, numbers) {
-            return false;
-        }
-    }
-    matches.len() == wanted.len()
-}
-
-/// Whether the rule at a place has matches whose rows have these numbers.
-fn has_matches(all: &[List<Match>], rule: u8, wanted: &[&[i64]]) -> bool {
-    match all.get(rule as usize) {
-        Some(matches) => are_matches(matches.as_slice(), wanted),
-        None => false,
-    }
-}
-
-/// The rows of the rule at a place have these numbers.
-fn expect_rows(
-    rt: &impl Abort,
+/// Whether the rule at a place has the wanted row alone, or none where none is wanted.
+fn has_only_row(
     director: &Director<Shipped>,
-    rule: u8,
-    wanted: &[&[i64]],
-) -> Result<(), Memory>
-    requires { rule < length director.now.rules }
+    rules: &Rules<Shipped>,
+    wanted: OnlyRow,
+) -> Result<bool, Memory>
+    requires own { rules.now.defs ≡ director.now.rules }
 {
+    let OnlyRow(rule, row) = wanted;
+    if rules.count() <= rule {
+        return Ok(false);
+    }
     let rows = director.matches(rule)?;
-    assert!(rt; are_rows(rows.as_slice(), wanted), "rule {rule}");
-    Ok(())
+    Ok(is_only_row(rows.as_slice(), row))
+}
+
+/// Whether the rules have these rows alone.
+fn have_rows(all: &[List<Match>], wanted: &[OnlyRow]) -> bool {
+    for OnlyRow(rule, row) in wanted {
+        let Some(matches) = all.get(*rule as usize) else {
+            return false;
+        };
+        if !is_only_match(matches.as_slice(), *row) {
+            return false;
+        }
+    }
+    true
 }
 
 /// What the plan is worth, where no variable is null.
@@ -88,21 +65,16 @@ fn placed_score(seen: &Seen) -> PlanScore {
     }
 }
 
-/// The director sees this.
-fn expect_seen(
-    rt: &impl Abort,
-    director: &Director<Shipped>,
-    rules: &Rules<Shipped>,
-    seen: &Seen,
-) -> Result<(), Memory>
+/// Whether the director sees this.
+fn sees(director: &Director<Shipped>, rules: &Rules<Shipped>, seen: &Seen) -> Result<bool, Memory>
     requires own { rules.now.defs ≡ director.now.rules }
 {
-    assert_eq!(rt; director.score(), placed_score(seen));
-    for (rule, rows) in seen.rows {
-        assert!(rt; *rule < rules.count());
-        expect_rows(rt, director, *rule, rows)?;
+    for wanted in seen.rows {
+        if !has_only_row(director, rules, *wanted)? {
+            return Ok(false);
+        }
     }
-    Ok(())
+    Ok(director.score() == placed_score(seen))
 }
 
 /// The edit that sets one variable.
@@ -112,35 +84,14 @@ fn edit_of(alloc: Global, set: Set) -> Result<Edit, Memory> {
     Ok(edit)
 }
 
-/// What an edit is judged to give is as wanted.
-fn expect_judged<L: Ledger>(
-    rt: &impl Abort,
-    domain: &Domain<Shipped>,
-    director: &mut Director<Shipped>,
-    edit: &Edit,
-    wanted: Option<PlanScore>,
-    steps: &mut Steps<L>,
-) -> Result<(), Memory>
-    requires judges { let seen = director.old in
-        ⟦<Rules<Shipped> as Judges>⟧.judges domain.now.rules seen.weights (sizes_of seen.plan) }
-    requires own { domain.now.rules.defs ≡ director.old.rules }
-    requires rest { director.old.base ≡ None }
-    ensures { director.new ≡ director.old }
-{
-    let score = director.judge(&domain.rules, &domain.schema, edit, steps)?;
-    assert_eq!(rt; score, wanted);
-    Ok(())
-}
-
-/// The moves of a case that aren't doable are judged to give nothing.
-fn judge_idle<L: Ledger>(
-    rt: &impl Abort,
+/// Whether the moves of a case that aren't doable are judged to give nothing.
+fn are_idle<L: Ledger>(
     alloc: Global,
     domain: &Domain<Shipped>,
     director: &mut Director<Shipped>,
     idle: &[Set],
     steps: &mut Steps<L>,
-) -> Result<(), Memory>
+) -> Result<bool, Memory>
     requires judges { let seen = director.old in
         ⟦<Rules<Shipped> as Judges>⟧.judges domain.now.rules seen.weights (sizes_of seen.plan) }
     requires own { domain.now.rules.defs ≡ director.old.rules }
@@ -149,95 +100,78 @@ fn judge_idle<L: Ledger>(
 {
     for set in idle {
         let edit = edit_of(alloc, *set)?;
-        expect_judged(rt, domain, director, &edit, None, steps)?;
+        let score = director.judge(&domain.rules, &domain.schema, &edit, steps)?;
+        if score.is_some() {
+            return Ok(false);
+        }
     }
-    Ok(())
+    Ok(true)
 }
 
-/// Attempts an edit that must be doable, after which the plan is worth what is wanted.
-fn attempt<L: Ledger>(
-    rt: &impl Abort,
-    domain: &Domain<Shipped>,
-    director: &mut Director<Shipped>,
-    edit: &Edit,
-    wanted: PlanScore,
-    steps: &mut Steps<L>,
-) -> Result<(), Memory>
-    requires judges { let seen = director.old in
-        ⟦<Rules<Shipped> as Judges>⟧.judges domain.now.rules seen.weights (sizes_of seen.plan) }
-    requires own { domain.now.rules.defs ≡ director.old.rules }
-    requires rest { director.old.base ≡ None }
-    ensures { OnOk result (director.new ≡ attempted director.old edit.now) }
-{
-    assert!(rt; edit.doable(&domain.schema, director.plan()));
-    let score = director.attempt(&domain.rules, edit, steps)?;
-    assert_eq!(rt; score, wanted);
-    Ok(())
-}
-
-/// An attempt that is taken back leaves what was seen before.
-fn attempt_and_undo<L: Ledger>(
-    rt: &impl Abort,
+/// Whether the doable edit of a case is judged to give what was worked by hand.
+fn is_judged<L: Ledger>(
     domain: &Domain<Shipped>,
     director: &mut Director<Shipped>,
     edit: &Edit,
     case: &Case,
     steps: &mut Steps<L>,
-) -> Result<(), Memory>
-    requires judges { let seen = director.old in
-        ⟦<Rules<Shipped> as Judges>⟧.judges domain.now.rules seen.weights (sizes_of seen.plan) }
-    requires own { domain.now.rules.defs ≡ director.old.rules }
-    requires rest { director.old.base ≡ None }
-    ensures { OnOk result (director.new ≡ director.old) }
-{
-    attempt(rt, domain, director, edit, placed_score(&case.after), steps)?;
-    expect_seen(rt, director, &domain.rules, &case.after)?;
-    director.undo();
-    expect_seen(rt, director, &domain.rules, &case.before)?;
-    Ok(())
-}
-
-/// An attempt that is kept stays.
-fn attempt_and_keep<L: Ledger>(
-    rt: &impl Abort,
-    domain: &Domain<Shipped>,
-    director: &mut Director<Shipped>,
-    edit: &Edit,
-    case: &Case,
-    steps: &mut Steps<L>,
-) -> Result<(), Memory>
-    requires judges { let seen = director.old in
-        ⟦<Rules<Shipped> as Judges>⟧.judges domain.now.rules seen.weights (sizes_of seen.plan) }
-    requires own { domain.now.rules.defs ≡ director.old.rules }
-    requires rest { director.old.base ≡ None }
-{
-    attempt(rt, domain, director, edit, placed_score(&case.after), steps)?;
-    director.keep();
-    expect_seen(rt, director, &domain.rules, &case.after)?;
-    Ok(())
-}
-
-/// Judging leaves what was seen before.
-fn judge_both<L: Ledger>(
-    rt: &impl Abort,
-    alloc: Global,
-    domain: &Domain<Shipped>,
-    director: &mut Director<Shipped>,
-    edit: &Edit,
-    case: &Case,
-    steps: &mut Steps<L>,
-) -> Result<(), Memory>
+) -> Result<bool, Memory>
     requires judges { let seen = director.old in
         ⟦<Rules<Shipped> as Judges>⟧.judges domain.now.rules seen.weights (sizes_of seen.plan) }
     requires own { domain.now.rules.defs ≡ director.old.rules }
     requires rest { director.old.base ≡ None }
     ensures { director.new ≡ director.old }
 {
-    let wanted = Some(placed_score(&case.after));
-    expect_judged(rt, domain, director, edit, wanted, steps)?;
-    judge_idle(rt, alloc, domain, director, case.idle, steps)?;
-    expect_seen(rt, director, &domain.rules, &case.before)?;
-    Ok(())
+    match director.judge(&domain.rules, &domain.schema, edit, steps)? {
+        Some(score) => Ok(score == placed_score(&case.after)),
+        None => Ok(false),
+    }
+}
+
+/// Whether an attempt gives what was worked by hand, and leaves what was seen before once it is taken back.
+fn is_undone<L: Ledger>(
+    domain: &Domain<Shipped>,
+    director: &mut Director<Shipped>,
+    edit: &Edit,
+    case: &Case,
+    steps: &mut Steps<L>,
+) -> Result<bool, Memory>
+    requires judges { let seen = director.old in
+        ⟦<Rules<Shipped> as Judges>⟧.judges domain.now.rules seen.weights (sizes_of seen.plan) }
+    requires own { domain.now.rules.defs ≡ director.old.rules }
+    requires rest { director.old.base ≡ None }
+    ensures { OnOk result (director.new ≡ director.old) }
+{
+    if !edit.doable(&domain.schema, director.plan()) {
+        return Ok(false);
+    }
+    let score = director.attempt(&domain.rules, edit, steps)?;
+    let tried = sees(director, &domain.rules, &case.after)?;
+    director.undo();
+    let stays = sees(director, &domain.rules, &case.before)?;
+    Ok(tried && stays && score == placed_score(&case.after))
+}
+
+/// Whether an attempt that is kept gives what was worked by hand, and stays.
+fn is_kept<L: Ledger>(
+    domain: &Domain<Shipped>,
+    director: &mut Director<Shipped>,
+    edit: &Edit,
+    case: &Case,
+    steps: &mut Steps<L>,
+) -> Result<bool, Memory>
+    requires judges { let seen = director.old in
+        ⟦<Rules<Shipped> as Judges>⟧.judges domain.now.rules seen.weights (sizes_of seen.plan) }
+    requires own { domain.now.rules.defs ≡ director.old.rules }
+    requires rest { director.old.base ≡ None }
+{
+    if !edit.doable(&domain.schema, director.plan()) {
+        return Ok(false);
+    }
+    let score = director.attempt(&domain.rules, edit, steps)?;
+    director.keep();
+    let stays = sees(director, &domain.rules, &case.after)?;
+    Ok(stays && score == placed_score(&case.after))
 }
 
 /// Whether the variable holds this value in the plan.
@@ -248,26 +182,46 @@ fn is_held(plan: &Plan, set: &Set) -> bool {
     }
 }
 
-/// Does with a director of the plan of a case all that directors do.
-fn direct<L: Ledger>(
-    rt: &impl Abort,
+/// Whether a director of the plan of a case judges as was worked by hand, and all that is seen stays.
+fn judges_all<L: Ledger>(
+    alloc: Global,
+    domain: &Domain<Shipped>,
+    director: &mut Director<Shipped>,
+    edit: &Edit,
+    case: &Case,
+    steps: &mut Steps<L>,
+) -> Result<bool, Memory>
+    requires judges { let seen = director.old in
+        ⟦<Rules<Shipped> as Judges>⟧.judges domain.now.rules seen.weights (sizes_of seen.plan) }
+    requires own { domain.now.rules.defs ≡ director.old.rules }
+    requires rest { director.old.base ≡ None }
+    ensures { director.new ≡ director.old }
+{
+    let judged = is_judged(domain, director, edit, case, steps)?;
+    let idle = are_idle(alloc, domain, director, case.idle, steps)?;
+    let stays = sees(director, &domain.rules, &case.before)?;
+    Ok(judged && idle && stays)
+}
+
+/// Whether a director of the plan of a case does all that directors do as was worked by hand.
+fn directs<L: Ledger>(
     alloc: Global,
     domain: &Domain<Shipped>,
     director: &mut Director<Shipped>,
     case: &Case,
     steps: &mut Steps<L>,
-) -> Result<(), Memory>
+) -> Result<bool, Memory>
     requires judges { let seen = director.old in
         ⟦<Rules<Shipped> as Judges>⟧.judges domain.now.rules seen.weights (sizes_of seen.plan) }
     requires own { domain.now.rules.defs ≡ director.old.rules }
     requires rest { director.old.base ≡ None }
 {
     let edit = edit_of(alloc, case.doable)?;
-    expect_seen(rt, director, &domain.rules, &case.before)?;
-    judge_both(rt, alloc, domain, director, &edit, case, steps)?;
-    attempt_and_undo(rt, domain, director, &edit, case, steps)?;
-    attempt_and_keep(rt, domain, director, &edit, case, steps)?;
-    Ok(())
+    let seen = sees(director, &domain.rules, &case.before)?;
+    let judged = judges_all(alloc, domain, director, &edit, case, steps)?;
+    let undone = is_undone(domain, director, &edit, case, steps)?;
+    let kept = is_kept(domain, director, &edit, case, steps)?;
+    Ok(seen && judged && undone && kept)
 }
 
 /// A director of the plan of a problem.
@@ -283,46 +237,38 @@ fn director_of<L: Ledger>(
     Director::new(alloc, rules, problem.plan, problem.weights, steps)
 }
 
-/// All that the plan of a case is worth, found at once, is what was worked by hand.
-fn expect_totals(
-    rt: &impl Abort,
+/// Whether all that the plan of a case is worth, found at once, is what was worked by hand.
+fn has_totals(
     alloc: Global,
     rules: &Rules<Shipped>,
     problem: &Problem,
     seen: &Seen,
-) -> Result<(), Memory>
+) -> Result<bool, Memory>
     requires { let p = problem.now in
         ⟦<Rules<Shipped> as Judges>⟧.judges rules.now p.weights (sizes_of p.plan) }
 {
     let totals = totals_by_network(alloc, rules, &problem.plan, problem.weights.as_slice())?;
-    assert_eq!(rt; totals.score, placed_score(seen));
-    for (rule, rows) in seen.rows {
-        assert!(rt; has_matches(totals.matches.as_slice(), *rule, rows));
-    }
-    Ok(())
+    Ok(totals.score == placed_score(seen) && have_rows(totals.matches.as_slice(), seen.rows))
 }
 
-/// A director of the plan of a case does what was worked by hand.
-fn expect_worked<L: Ledger>(
-    rt: &impl Abort,
+/// Whether a director of the plan of a case does what was worked by hand, and its edit stays in the plan.
+fn is_worked<L: Ledger>(
     alloc: Global,
     domain: &Domain<Shipped>,
     problem: Problem,
     case: &Case,
     blank: Blank,
-) -> Result<(), Memory>
+) -> Result<bool, Memory>
     requires name { blank.name ≡ L.name }
     requires parts { blank.parts ≡ L.parts }
     requires some { 0 < L.parts }
     requires judges { ⟦<Rules<Shipped> as Judges>⟧.judges domain.now.rules problem.weights (sizes_of problem.plan) }
 {
-    expect_totals(rt, alloc, &domain.rules, &problem, &case.before)?;
     let mut steps: Steps<L> = Steps::new(blank);
     let mut director = director_of(alloc, &domain.rules, problem, &mut steps)?;
-    direct(rt, alloc, domain, &mut director, case, &mut steps)?;
-    let plan = director.into_plan();
-    assert!(rt; is_held(&plan, &case.doable), "{}", case.name);
-    Ok(())
+    let directed = directs(alloc, domain, &mut director, case, &mut steps);
+    let held = is_held(&director.into_plan(), &case.doable);
+    Ok(directed? && held)
 }
 
 /// The domain of a problem that was accepted, and whose plan is of the domain's schema.
@@ -337,45 +283,44 @@ fn domain_of<'a>(domains: &'a [Domain<Shipped>], problem: &Problem) -> &'a Domai
     &domains[problem.domain]
 }
 
-/// Reads the problem of a case, and does with it all that directors do.
-fn try_case(
-    rt: &impl Abort,
-    alloc: Global,
-    domains: &[Domain<Shipped>],
-    case: &Case,
-) -> Result<(), Fail>
+/// Reads the problem of a case; whether directors do with it what was worked by hand.
+fn try_case(alloc: Global, domains: &[Domain<Shipped>], case: &Case) -> Result<bool, Fail>
     requires keeps { All (λ domain. ⟦<Rules<Shipped> as Kept>⟧.keeps domain.rules) domains.now }
 {
     let problem = read_problem(alloc, case.problem.as_bytes(), domains)?;
     let domain = domain_of(domains, &problem);
-    expect_worked::<Brand>(rt, alloc, domain, problem, case, Blank::new(1))?;
-    Ok(())
+    let found = has_totals(alloc, &domain.rules, &problem, &case.before);
+    let worked = is_worked::<Brand>(alloc, domain, problem, case, Blank::new(1));
+    Ok(found? && worked?)
 }
 
-/// Tries the cases in the domains that come with the solver.
+/// Tries the cases in the domains that come with the solver, and gives the name of the first that goes wrong.
 #[derive(Drop)]
-struct Trial<'a, T> {
-    rt: &'a T,
+struct Trial {
     alloc: Global,
 }
 
-impl<'a, T: Abort> Act for Trial<'a, T> {
-    type Answer = Result<(), Fail>;
+impl Act for Trial {
+    type Answer = Result<Option<&'static str>, Fail>;
 
     ghost is_ready = { λ _. Unit };
 
     ghost answers = { λ _ _ _. Unit };
 
-    fn act(self, domains: &[Domain<Shipped>]) -> Result<(), Fail> {
+    fn act(self, domains: &[Domain<Shipped>]) -> Result<Option<&'static str>, Fail> {
         for case in CASES {
-            try_case(self.rt, self.alloc, domains, case)?;
+            if !try_case(self.alloc, domains, case)? {
+                return Ok(Some(case.name));
+            }
         }
-        Ok(())
+        Ok(None)
     }
 }
 
 #[test]
 fn directors_do_what_was_worked_by_hand(rt: HostRuntime) -> Result<(), Fail> {
     let alloc = rt.alloc();
-    with_shipped_domains(alloc, Trial { rt: &rt, alloc })?
+    let wrong = with_shipped_domains(alloc, Trial { alloc })??;
+    assert!(rt; wrong.is_none(), "{wrong:?}");
+    Ok(())
 }

@@ -1,4 +1,5 @@
 //! Plans of the shipped domains, with what a director sees of them, worked by hand.
+use super::rows::{OnlyRow, RowSketch};
 use plan_moves::Set;
 use plan_scores::Score;
 
@@ -14,11 +15,10 @@ const LESSON: u8 = 2;
 
 const SHIFT: u8 = 1;
 
-/// What is seen of a plan where no variable is null: its score, and the rows of some rules. A row is written as the
-/// numbers of its parts; that of a fact is its id.
+/// What is seen of a plan where no variable is null: its score, and the rows of some rules.
 pub(super) struct Seen {
     pub(super) score: Score,
-    pub(super) rows: &'static [(u8, &'static [&'static [i64]])],
+    pub(super) rows: &'static [OnlyRow],
 }
 
 /// A problem, a move that is doable and some that aren't, and what is seen before the move and after it.
@@ -93,7 +93,7 @@ pub(super) const CASES: &[Case] = &[
                 medium: -1,
                 soft: 0,
             },
-            rows: &[(GROUP_LOAD, &[&[2, 1, 7]])],
+            rows: &[OnlyRow(GROUP_LOAD, Some(RowSketch(3, [2, 1, 7])))],
         },
         after: Seen {
             score: Score {
@@ -101,7 +101,7 @@ pub(super) const CASES: &[Case] = &[
                 medium: 0,
                 soft: 0,
             },
-            rows: &[(GROUP_LOAD, &[])],
+            rows: &[OnlyRow(GROUP_LOAD, None)],
         },
     },
     Case {
@@ -133,7 +133,10 @@ pub(super) const CASES: &[Case] = &[
                 medium: 0,
                 soft: -2,
             },
-            rows: &[(EARLY, &[&[1, 1, 300]]), (IDLE, &[&[2]])],
+            rows: &[
+                OnlyRow(EARLY, Some(RowSketch(3, [1, 1, 300]))),
+                OnlyRow(IDLE, Some(RowSketch(1, [2, 0, 0]))),
+            ],
         },
         after: Seen {
             score: Score {
@@ -141,7 +144,10 @@ pub(super) const CASES: &[Case] = &[
                 medium: 0,
                 soft: -1,
             },
-            rows: &[(EARLY, &[&[2, 1, 300]]), (IDLE, &[])],
+            rows: &[
+                OnlyRow(EARLY, Some(RowSketch(3, [2, 1, 300]))),
+                OnlyRow(IDLE, None),
+            ],
         },
     },
 ];

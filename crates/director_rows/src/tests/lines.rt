@@ -1,4 +1,5 @@
 //! Feeds, the lines that are printed of them, and what plans of the shipped domains are worth before and after them.
+use super::rows::{OnlyRow, RowSketch};
 
 /// The places of the rules that are looked at.
 const ROOM_SIZE: u8 = 3;
@@ -8,14 +9,13 @@ const TEACHER_CHAIN: u8 = 7;
 const ROSTER_IDLE: u8 = 9;
 
 /// What a plan is worth, nothing at the medium level: how many variables are to be placed, its hard and its soft score; and
-/// the rows of the rule that is looked at. A row is written as the numbers of its parts; that of a fact is its id.
+/// the row of the rule that is looked at.
 #[derive(Clone, Copy, Drop)]
 pub(super) struct Worth {
     pub(super) unplaced: u32,
     pub(super) hard: i64,
     pub(super) soft: i64,
-    pub(super) rule: u8,
-    pub(super) rows: &'static [&'static [i64]],
+    pub(super) row: OnlyRow,
 }
 
 /// A problem; the feed that comes, in front of which stand so many bytes `x`; the lines that are printed of it; the names that
@@ -153,15 +153,13 @@ change 3 0 refused syntax weight
         unplaced: 0,
         hard: -10,
         soft: 0,
-        rule: ROOM_SIZE,
-        rows: &[&[1]],
+        row: OnlyRow(ROOM_SIZE, Some(RowSketch(1, [1, 0, 0]))),
     }),
     after: Some(Worth {
         unplaced: 0,
         hard: -30,
         soft: 0,
-        rule: ROOM_SIZE,
-        rows: &[&[1]],
+        row: OnlyRow(ROOM_SIZE, Some(RowSketch(1, [1, 0, 0]))),
     }),
 };
 
@@ -180,15 +178,13 @@ const CHAINED: Course = Course {
         unplaced: 0,
         hard: 0,
         soft: 1,
-        rule: TEACHER_CHAIN,
-        rows: &[&[1, 2]],
+        row: OnlyRow(TEACHER_CHAIN, Some(RowSketch(2, [1, 2, 0]))),
     }),
     after: Some(Worth {
         unplaced: 0,
         hard: 0,
         soft: 0,
-        rule: TEACHER_CHAIN,
-        rows: &[],
+        row: OnlyRow(TEACHER_CHAIN, None),
     }),
 };
 
@@ -207,15 +203,13 @@ const SHIFTS: Course = Course {
         unplaced: 0,
         hard: 0,
         soft: -1,
-        rule: ROSTER_IDLE,
-        rows: &[&[2]],
+        row: OnlyRow(ROSTER_IDLE, Some(RowSketch(1, [2, 0, 0]))),
     }),
     after: Some(Worth {
         unplaced: 3,
         hard: 0,
         soft: -1,
-        rule: ROSTER_IDLE,
-        rows: &[&[2]],
+        row: OnlyRow(ROSTER_IDLE, Some(RowSketch(1, [2, 0, 0]))),
     }),
 };
 

@@ -61,27 +61,39 @@ fn task(alloc: Global, id: u32) -> Result<Raw, Memory> {
     })
 }
 
-/// So many tasks without a day, and no day.
-pub(super) fn plan(alloc: Global, schema: &Schema, size: u32) -> Result<Plan, Fail>
+/// So many tasks without a day.
+fn tasks(alloc: Global, size: u32) -> Result<List<Raw>, Memory>
     requires { size < 100000 }
-    ensures { IfOk result (λ plan. IsOfSchema schema.now plan) }
 {
     let mut tasks = List::new(alloc);
     for place in 0..size {
         tasks.push(task(alloc, place + 1)?)?;
     }
+    Ok(tasks)
+}
+
+/// So many tasks without a day, and no day.
+pub(super) fn plan(alloc: Global, schema: &Schema, size: u32) -> Result<Plan, Fail>
+    requires { size < 100000 }
+    ensures { IfOk result (λ plan. IsOfSchema schema.now plan) }
+{
     let mut lists = List::new(alloc);
-    lists.push(tasks)?;
+    lists.push(tasks(alloc, size)?)?;
     lists.push(List::new(alloc))?;
     Ok(Plan::of(alloc, schema, lists)?)
 }
 
-/// The rule, with so many joins with all tasks and this weigher, if any.
-fn rule(alloc: Global, joins: u8, weigh: Option<u16>) -> Result<RuleDef, Memory> {
+/// So many joins with all tasks.
+fn joins_of(alloc: Global, joins: u8) -> Result<List<Node>, Memory> {
     let mut nodes = List::new(alloc);
     for _ in 0..joins {
         nodes.push(Node::Join(TASK, true, List::new(alloc)))?;
     }
+    Ok(nodes)
+}
+
+/// The rule, with so many joins with all tasks and this weigher, if any.
+fn rule(alloc: Global, joins: u8, weigh: Option<u16>) -> Result<RuleDef, Memory> {
     Ok(RuleDef {
         name: Text::from_slice(alloc, b"rule")?,
         level: Level::Hard,
@@ -89,7 +101,7 @@ fn rule(alloc: Global, joins: u8, weigh: Option<u16>) -> Result<RuleDef, Memory>
         weight: 1,
         weigh,
         head: Head::ForEach(TASK),
-        nodes,
+        nodes: joins_of(alloc, joins)?,
     })
 }
 

@@ -1,17 +1,16 @@
 //! Changes after which rows or score could be out of range.
-ghost use Rattle.std.specs.Prelude.{◌≡◌, ◌<◌};
+ghost use Rattle.std.specs.Prelude.{◌≡◌, ◌<◌, All};
 ghost use Rattle.plan_changes.specs.Fits.{IsOfSchema};
 
 use super::made::{WEIGHER, Zeros, director_of, one_weigher, rules_of, schema};
 use super::snapshot::Snapshot;
 use plan_changes::{Change, ChangeFault, Deed};
-use plan_facts::{Memory, Names, Schema, Text};
+use plan_facts::{List, Memory, Names, Schema, Text};
 use plan_rules::{Kept, Row, Rules, Steps, Weigh, WeighBody};
 use plan_scores::{PlanScore, Score};
 use score_director::Director;
 use std::alloc::Global;
 use std::marker::Brand;
-use std::process::Abort;
 use std::sync::ledger::{Blank, Ledger};
 use std::test::Fail;
 
@@ -30,87 +29,123 @@ const LIMITS: &[Limit] = &[
     Limit(0, 1, 5_000, Some(922_338), Some(ChangeFault::ScoreRange)),
 ];
 
-/// The change: the rule gets a weight, or a task is made.
-fn change_of(rt: &impl Abort, alloc: Global, given: Option<u32>) -> Result<Change, Memory> {
-    let Some(weight) = given else {
-        let mut change = Change::new(alloc, Deed::Add);
-        change.class = Text::from_slice(alloc, b"task")?;
-        return Ok(change);
-    };
-    assert!(rt; weight <= 1_000_000);
+/// A change that makes a task.
+fn new_task(alloc: Global) -> Result<Change, Memory> {
+    let name = Text::from_slice(alloc, b"task")?;
+    let mut change = Change::new(alloc, Deed::Add);
+    change.class = name;
+    Ok(change)
+}
+
+/// A change that gives the rule a weight of at most 1,000,000.
+fn new_weight(alloc: Global, weight: u32) -> Result<Change, Memory> {
+    if weight > 1_000_000 {
+        return Err(Memory);
+    }
+    let name = Text::from_slice(alloc, b"rule")?;
     let mut change = Change::new(alloc, Deed::Weight);
-    change.rule = Text::from_slice(alloc, b"rule")?;
+    change.rule = name;
     change.weight = weight;
     Ok(change)
 }
 
-/// The change is refused as is wanted, and all stays as it was.
-fn expect_refused(
-    rt: &impl Abort,
+/// The change: the rule gets a weight, or a task is made.
+fn change_of(alloc: Global, given: Option<u32>) -> Result<Change, Memory> {
+    match given {
+        Some(weight) => new_weight(alloc, weight),
+        None => new_task(alloc),
+    }
+}
+
+/// Whether the change is refused as is wanted, or not at all.
+fn is_refused(
+    director: &Director<Zeros>,
+    rules: &Rules<Zeros>,
+    schema: &Schema,
+    names: &Names,
+    change: &Change,
+    wanted: Option<ChangeFault>,
+) -> bool
+    requires own { rules.now.defs ≡ director.now.rules }
+    requires schema { IsOfSchema schema.now director.now.plan }
+{
+    match (director.ready(rules, schema, names, change), wanted) {
+        (Ok(_), None) => true,
+        (Err(fault), Some(wanted)) => fault == wanted,
+        _ => false,
+    }
+}
+
+/// Whether the change is refused as is wanted, where nothing is placed, and all stays as it was.
+fn stays_in_range(
     alloc: Global,
     director: &Director<Zeros>,
     rules: &Rules<Zeros>,
     schema: &Schema,
+    change: &Change,
     limit: Limit,
-) -> Result<(), Memory>
+) -> Result<bool, Memory>
     requires own { rules.now.defs ≡ director.now.rules }
     requires schema { IsOfSchema schema.now director.now.plan }
 {
-    let Limit(_, _, unplaced, given, wanted) = limit;
-    let change = change_of(rt, alloc, given)?;
+    let Limit(_, _, unplaced, _, wanted) = limit;
     let names = Names::new(alloc);
     let before = Snapshot::of(alloc, director, rules, &names)?;
-    let ready = director.ready(rules, schema, &names, &change);
-    assert_eq!(rt; ready.err(), wanted);
-    let after = Snapshot::of(alloc, director, rules, &names)?;
-    assert!(rt; after.same(&before));
+    let refused = is_refused(director, rules, schema, &names, change, wanted);
+    let stays = before.stays(director, rules, &names)?;
     let score = Score::zero();
-    assert_eq!(rt; director.score(), PlanScore { unplaced, score });
-    Ok(())
+    Ok(refused && stays && director.score() == PlanScore { unplaced, score })
 }
 
-/// A director of so many tasks refuses the change as is wanted.
-fn expect_limit<L: Ledger>(
-    rt: &impl Abort,
+/// Whether a director of so many tasks refuses the change as is wanted.
+fn is_limit<L: Ledger>(
     alloc: Global,
     rules: &Rules<Zeros>,
     schema: &Schema,
     limit: Limit,
     blank: Blank,
-) -> Result<(), Fail>
+) -> Result<bool, Fail>
     requires name { blank.name ≡ L.name }
     requires parts { blank.parts ≡ L.parts }
     requires some { 0 < L.parts }
     requires keeps { ⟦<Rules<Zeros> as Kept>⟧.keeps rules.now }
 {
-    let Limit(_, weight, size, _, _) = limit;
-    assert!(rt; size < 100_000);
+    let Limit(_, weight, size, given, _) = limit;
+    if size >= 100_000 {
+        return Ok(false);
+    }
+    let change = change_of(alloc, given)?;
     let mut steps: Steps<L> = Steps::new(blank);
     let director = director_of(alloc, rules, schema, size, weight, &mut steps)?;
-    expect_refused(rt, alloc, &director, rules, schema, limit)?;
-    Ok(())
+    Ok(stays_in_range(alloc, &director, rules, schema, &change, limit)?)
 }
 
-/// Makes the rule, and tries the change at a limit.
-fn try_limit(rt: &impl Abort, alloc: Global, limit: Limit) -> Result<(), Fail> {
+/// Makes the rule with these weighers, and tries the change at a limit.
+fn try_limit(alloc: Global, limit: Limit, weighers: List<Weigh<Zeros>>) -> Result<bool, Fail>
+    requires { All (λ weigher. ⟦<Weigh<Zeros> as Kept>⟧.keeps weigher) weighers }
+{
+    let Limit(joins, _, _, _, _) = limit;
+    let schema = schema(alloc)?;
+    let rules = rules_of(alloc, &schema, joins, Some(WEIGHER), weighers)?;
+    is_limit::<Brand>(alloc, &rules, &schema, limit, Blank::new(1))
+}
+
+/// Makes the weigher, and tries the change at a limit.
+fn try_weighing(alloc: Global, limit: Limit) -> Result<bool, Fail> {
     let zero: WeighBody = Box::new(
         alloc,
         |_: &Row| -> u32
             ensures { result ≡ 0 }
         { 0 },
     )?;
-    let schema = schema(alloc)?;
     let weighers = one_weigher(alloc, Weigh::new(WEIGHER, 1_000_000_000, zero))?;
-    let Limit(joins, _, _, _, _) = limit;
-    let rules = rules_of(alloc, &schema, joins, Some(WEIGHER), weighers)?;
-    expect_limit::<Brand>(rt, alloc, &rules, &schema, limit, Blank::new(1))
+    try_limit(alloc, limit, weighers)
 }
 
 #[test]
 fn changes_stay_in_range(rt: HostRuntime) -> Result<(), Fail> {
-    let alloc = rt.alloc();
     for limit in LIMITS {
-        try_limit(&rt, alloc, *limit)?;
+        assert!(rt; try_weighing(rt.alloc(), *limit)?);
     }
     Ok(())
 }

@@ -1,5 +1,5 @@
 //! What there is before a change, to be compared with what there is after it.
-ghost use Rattle.std.specs.Prelude.{◌≡◌, ◌≤◌, length};
+ghost use Rattle.std.specs.Prelude.{◌≡◌, ◌<◌, ◌≤◌, length};
 
 use plan_facts::{List, Memory, Names, Plan, Raw, same_numbers};
 use plan_rules::{Book, Row, Rules};
@@ -16,12 +16,22 @@ pub(super) struct Snapshot {
     rows: List<List<Row>>,
 }
 
+/// Whether these are the same values, in the same order.
+fn same_values(some: &[Option<u32>], others: &[Option<u32>]) -> bool {
+    for (one, other) in some.iter().zip(others) {
+        if one != other {
+            return false;
+        }
+    }
+    some.len() == others.len()
+}
+
 /// Whether two facts are kept alike.
 fn same_fact(one: &Raw, other: &Raw) -> bool {
     one.id == other.id
         && one.pinned == other.pinned
         && same_numbers(&one.fields, &other.fields)
-        && one.values.as_slice() == other.values.as_slice()
+        && same_values(one.values.as_slice(), other.values.as_slice())
 }
 
 /// Whether these are the same facts, in the same order.
@@ -47,19 +57,9 @@ fn same_plan(one: &Plan, other: &Plan) -> bool {
 }
 
 /// Whether these are the same rows, in the same order.
-fn same_rows(some: &List<Row>, others: &List<Row>) -> bool {
-    for (one, other) in some.as_slice().iter().zip(others.as_slice()) {
-        if !one.same(other) {
-            return false;
-        }
-    }
-    some.len() == others.len()
-}
-
-/// Whether each rule has the same rows.
-fn same_rows_each(some: &[List<Row>], others: &[List<Row>]) -> bool {
+fn same_rows(some: &[Row], others: &[Row]) -> bool {
     for (one, other) in some.iter().zip(others) {
-        if !same_rows(one, other) {
+        if !one.same(other) {
             return false;
         }
     }
@@ -81,6 +81,33 @@ fn rows_of<B: Book>(
     Ok(rows)
 }
 
+/// Whether a rule has these rows.
+fn has_rows<B: Book>(director: &Director<B>, rule: u8, wanted: &[Row]) -> Result<bool, Memory>
+    requires { rule < length director.now.rules }
+{
+    let rows = director.matches(rule)?;
+    Ok(same_rows(rows.as_slice(), wanted))
+}
+
+/// Whether there are so many rules, and each has these rows.
+fn have_rows<B: Book>(
+    director: &Director<B>,
+    count: u8,
+    wanted: &[List<Row>],
+) -> Result<bool, Memory>
+    requires { count ≤ length director.now.rules }
+{
+    for rule in 0..count {
+        let Some(rows) = wanted.get(rule as usize) else {
+            return Ok(false);
+        };
+        if !has_rows(director, rule, rows.as_slice())? {
+            return Ok(false);
+        }
+    }
+    Ok(wanted.len() == count as usize)
+}
+
 impl Snapshot {
     /// What there is now.
     pub(super) fn of<B: Book>(
@@ -99,11 +126,19 @@ impl Snapshot {
         })
     }
 
-    /// Whether nothing differs.
-    pub(super) fn same(&self, other: &Snapshot) -> bool {
-        self.names == other.names
-            && self.score == other.score
-            && same_plan(&self.plan, &other.plan)
-            && same_rows_each(self.rows.as_slice(), other.rows.as_slice())
+    /// Whether all is as it was.
+    pub(super) fn stays<B: Book>(
+        self,
+        director: &Director<B>,
+        rules: &Rules<B>,
+        names: &Names,
+    ) -> Result<bool, Memory>
+        requires own { rules.now.defs ≡ director.now.rules }
+    {
+        let same = self.names == names.count()
+            && self.score == director.score()
+            && same_plan(&self.plan, director.plan());
+        let rows = have_rows(director, rules.count(), self.rows.as_slice())?;
+        Ok(same && rows)
     }
 }

@@ -1,5 +1,5 @@
 use Rattle.std.proofs.Common.{◌≡◌}
-use Rattle.director_rows.proofs.tests.judge_idle.Given as goal
+use Rattle.director_rows.proofs.tests.are_idle.Given as goal
 
 -- judging changes nothing
 abbrev pub invariant-loop-set : goal.invariant-loop-set

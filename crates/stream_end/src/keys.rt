@@ -1,22 +1,28 @@
 //! Keys by which rows are found by one of their cells, and where a row's place is put by its keys.
 ghost use Rattle.std.specs.Prelude.{◌≡◌, ◌≤◌, OnErr, OnOk, None, length, map};
 ghost use Rattle.std.specs.FinMap as finmap;
-ghost use Rattle.stream_heads.specs.Numbers.{cell_number};
+ghost use Rattle.stream_heads.specs.Numbers.{row_numbers};
 ghost use Rattle.stream_end.specs.Keys.{Becomes, cell_key, first_key, put_at, second_key};
 
 use plan_facts::Memory;
 use stream_heads::{Cell, Cells, Placed};
 use stream_index::{Index, Key};
 
-/// The key of a cell, which no other cell has.
+/// The key of a cell, which no other cell has. That of a place is one number, so that small places are found at once.
 #[inline(always)]
 pub fn cell_key(cell: Cell) -> Key
     ensures value { result ≡ cell_key cell }
     ensures short { length result ≤ 4 }
 {
     match cell {
-        Cell::Place(place) => Key::of(&[(place / 2) as i64, (place % 2) as i64]),
-        Cell::Num(number) => Key::of(&[number]),
+        Cell::Place(n) => {
+            if n < 1 << 63 {
+                Key::of(&[n as i64])
+            } else {
+                Key::of(&[(n / 2) as i64, (n % 2) as i64, 0])
+            }
+        }
+        Cell::Num(n) => Key::of(&[n, 0]),
     }
 }
 
@@ -82,7 +88,7 @@ pub fn put_everywhere(
     requires whole { finmap.get wholes.old.now place ≡ None }
     requires first { finmap.get firsts.old.now place ≡ None }
     requires second { finmap.get seconds.old.now place ≡ None }
-    ensures whole { let places = put_at place (map cell_number cells.now) wholes.old.now in
+    ensures whole { let places = put_at place (row_numbers cells.now) wholes.old.now in
         OnOk result (Becomes wholes.old wholes.new places) }
     ensures first { let places = put_at place (first_key cells.now) firsts.old.now in
         OnOk result (Becomes firsts.old firsts.new places) }

@@ -4,6 +4,7 @@ pub mod Found
 pub mod HeadLaws
 pub mod Lists
 pub mod Meanings
+pub mod RowNumbers
 pub mod SideLaws
 pub mod Standings
 pub mod Values

@@ -149,11 +149,10 @@ impl Cells {
 }
 
 impl Placed for Cells {
-    ghost use Rattle.std.specs.Prelude.{map};
-    ghost use Rattle.stream_heads.specs.Numbers.{cell_number};
+    ghost use Rattle.stream_heads.specs.Numbers.{row_numbers};
     ghost use Rattle.stream_heads.specs.Equality.{cells_decide, same_cells};
 
-    ghost key = { map cell_number };
+    ghost key = { row_numbers };
 
     ghost eq = { same_cells };
 
@@ -163,7 +162,7 @@ impl Placed for Cells {
     fn key(&self) -> Key {
         match self.cells() {
             [a] => Key::of(&[a.number()]),
-            [a, b] => Key::of(&[a.number(), b.number()]),
+            [a, b] => Key::of(&[a.number(), b.number(), 0]),
             [a, b, c] => Key::of(&[a.number(), b.number(), c.number()]),
             [a, b, c, d] => Key::of(&[a.number(), b.number(), c.number(), d.number()]),
             _ => Key::of(&[]),

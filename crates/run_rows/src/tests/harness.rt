@@ -179,12 +179,14 @@ fn outcome_of(
     status: Status,
     lent: u64,
 ) -> Result<Outcome, Memory> {
-    Ok(Outcome {
+    let mut outcome = Outcome {
         text: Vec::from_slice(alloc, text)?,
         status,
-        is_due: text == asked.text.as_slice() && status == asked.status && lent == 0,
+        is_due: false,
         lent,
-    })
+    };
+    outcome.is_due = ended(&outcome, &asked.text, asked.status);
+    Ok(outcome)
 }
 
 pub(super) fn run_each<T: Threads + Wait + Sync, B: Book>(

@@ -352,6 +352,7 @@ fn asked_long(alloc: Global, more: &[u8], text: &str, status: Status) -> Result<
     let mut asked = solved(alloc, Vec::from_slice(alloc, STEPS.as_bytes())?);
     asked.words = "replay p --feed f --journal j";
     asked.feed = lines;
+    asked.take = 50;
     asked.lost = Lost::Open(2);
     asked.text = Vec::from_slice(alloc, text.as_bytes())?;
     asked.status = status;

@@ -94,7 +94,7 @@ fn gather_one(
     ensures base { KeepsBase heads.old heads.new }
 {
     let place = place_of(heads, *key);
-    let rec = plan.resolve(key.class, key.id)?;
+    let rec = heads.resolved(plan, key.class, key.id)?;
     if is_same(heads, place, &rec) {
         return Ok(());
     }

@@ -2,12 +2,14 @@
 ghost use Rattle.std.specs.Prelude.{◌≡◌, ◌<◌, length};
 
 use head_changes::{ClassChange, clear, gather, let_come_go, let_gone_go};
-use plan_facts::{Kind, Memory, Plan};
+use plan_facts::{Kind, Memory, Plan, Rec};
 use plan_moves::Touch;
 use std::alloc::Global;
 use std::test::Fail;
 use stream_heads::{Cell, Cells, Heads};
 use test_plans::{ClassSketch, FactSketch, VarSketch, plan_of, schema_of};
+
+const SLOT: u8 = 0;
 
 const TASK: u8 = 1;
 
@@ -240,5 +242,52 @@ fn records_that_changed_go_and_come(rt: HostRuntime) -> Result<(), Fail> {
 fn records_that_came_or_went_are_let_go(rt: HostRuntime) -> Result<(), Fail> {
     let seen = let_go(rt.alloc())?;
     assert!(rt; seen.gone && seen.come && seen.placed && seen.stays);
+    Ok(())
+}
+
+/// A record comes to the heads and goes again.
+fn passes_through(heads: &mut Heads, rec: Rec) -> Result<(), Memory> {
+    let place = heads.add(rec)?;
+    if heads.head(place).is_some() {
+        heads.kill(place);
+    }
+    Ok(())
+}
+
+/// The first field of the value that a record's first variable holds.
+fn held_field(rec: &Rec) -> Option<i64> {
+    let held = rec.planned.get(0)?.as_ref()?;
+    held.fields.get(0).copied()
+}
+
+/// A record in short: its class, its id, its first field, how many variables it has, and what the first one holds.
+type Short = ((u8, u32), Option<i64>, (usize, Option<i64>));
+
+/// The record of a fact, as the heads resolve it, in short. It passes through the heads then.
+fn short_of(heads: &mut Heads, plan: &Plan, class: u8, id: u32) -> Result<Option<Short>, Memory> {
+    let Some(rec) = heads.resolved(plan, class, id)? else {
+        return Ok(None);
+    };
+    let variables = (rec.planned.len(), held_field(&rec));
+    let short = ((rec.class, rec.id), rec.fields.get(0).copied(), variables);
+    passes_through(heads, rec)?;
+    Ok(Some(short))
+}
+
+#[test]
+fn records_are_resolved_in_the_memory_of_those_that_went(rt: HostRuntime) -> Result<(), Fail> {
+    let alloc = rt.alloc();
+    let plan = plan_with(alloc, BEFORE)?;
+    let mut heads = Heads::new(alloc);
+    let two = short_of(&mut heads, &plan, TASK, 2)?;
+    let slot = short_of(&mut heads, &plan, SLOT, 1)?;
+    let one = short_of(&mut heads, &plan, TASK, 1)?;
+    let three = short_of(&mut heads, &plan, TASK, 3)?;
+    let none = short_of(&mut heads, &plan, TASK, 4)?;
+    assert!(rt; two == Some(((TASK, 2), None, (1, Some(20)))));
+    assert!(rt; slot == Some(((SLOT, 1), Some(10), (0, None))));
+    assert!(rt; one == Some(((TASK, 1), None, (1, None))));
+    assert!(rt; three == Some(((TASK, 3), None, (1, Some(10)))));
+    assert!(rt; none.is_none());
     Ok(())
 }

@@ -18,11 +18,12 @@ pub enum Cell {
     Num(i64),
 }
 
-/// A row inside a network: at most four cells, held in place.
+/// A row inside a network: at most four cells, held in place. How many there are stands first, beside the first cell, which
+/// is what a look at a row mostly reads.
 #[derive(Clone, Copy, Debug)]
 pub struct Cells {
-    cells: [Cell; WIDEST],
     len: usize,
+    cells: [Cell; WIDEST],
 }
 
 impl Model for Cells {

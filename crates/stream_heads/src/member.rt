@@ -4,11 +4,11 @@ use crate::cells::Cells;
 use crate::placed::Placed;
 use stream_index::Key;
 
-/// A row with the numbers that closures answered for it.
+/// A row with the numbers that closures answered for it. The numbers stand first, beside the first cell.
 #[derive(Clone, Copy, Debug)]
 pub struct Member {
-    pub cells: Cells,
     pub numbers: Key,
+    pub cells: Cells,
 }
 
 impl Placed for Member {

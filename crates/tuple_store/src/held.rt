@@ -9,9 +9,9 @@ pub enum Mark {
     Killed,
 }
 
-/// A row with its mark.
+/// A row with its mark, which is read first.
 #[derive(Drop)]
 pub struct Held<T> {
-    pub row: T,
     pub mark: Mark,
+    pub row: T,
 }

@@ -1,9 +1,11 @@
 -- Lists of rows and of changes, one more at a time.
-use Rattle.std.proofs.Common.{◌≡◌, ◌<◌, ◌+◌, ◌∙◌, ◌||◌, ℕ, ℤ, Bool, true, false, cond, not, List, [], ◌∷◌, ◌++◌, Option, map, filter, drop, get_or, length, take, refl, ap, sym}
+use Rattle.std.proofs.Common.{◌≡◌, ◌<◌, ◌+◌, ◌∙◌, ◌||◌, ℕ, ℤ, Bool, true, false, cond, not, List, [], ◌∷◌, ◌++◌, Option, map, filter, drop, get_or, length, take, refl, ap, sym, subst}
 use Rattle.std.specs.List.{filter_map}
 use Rattle.std.proofs.lemmas.List.{append-nil, map-append, take-append-drop, take_more}
 use Rattle.std.proofs.lemmas.List.Elements.{filter-append, filter_map-append}
 use Rattle.std.proofs.lemmas.List.Folds.{list_any-append}
+use Rattle.plan_rules.specs.Bags.{AreSame}
+use Rattle.plan_rules.proofs.Sums.{same-append, same-filter, same-map, same-refl}
 use Rattle.stream_heads.specs.declared.member.Member.{Member}
 use Rattle.stream_heads.specs.MemberEquality.{member_decides, same_member}
 use Rattle.stream_group.specs.declared.change.Change.{Change}
@@ -27,11 +29,19 @@ pub numbers_staying-append : (width : ℕ) (run : List Change) (xs ys : List Mem
 numbers_staying-append width run xs ys = ap (map (number_in width)) (staying-append run xs ys) ∙ map-append (number_in width) (staying run xs) (staying run ys)
 
 -- one place more
+place_more : (at : ℕ → Option Member) (places : List ℕ) (i : ℕ) → i < length places → filter_map at (take (i + 1) places) ≡ filter_map at (take i places) ++ filter_map at (get_or places i 0 ∷ [])
+place_more at places i within = ap (filter_map at) (take_more places i 0 within) ∙ filter_map-append at (take i places) (get_or places i 0 ∷ [])
+
+pub numbers_more : (width : ℕ) (at : ℕ → Option Member) (places : List ℕ) (i : ℕ) → i < length places
+    → map (number_in width) (filter_map at (take (i + 1) places)) ≡ map (number_in width) (filter_map at (take i places)) ++ map (number_in width) (filter_map at (get_or places i 0 ∷ []))
+numbers_more width at places i within =
+    ap (map (number_in width)) (place_more at places i within)
+    ∙ map-append (number_in width) (filter_map at (take i places)) (filter_map at (get_or places i 0 ∷ []))
+
 pub staying_more : (width : ℕ) (run : List Change) (at : ℕ → Option Member) (places : List ℕ) (i : ℕ) → i < length places
     → numbers_staying width run (filter_map at (take (i + 1) places)) ≡ numbers_staying width run (filter_map at (take i places)) ++ numbers_staying width run (filter_map at (get_or places i 0 ∷ []))
 staying_more width run at places i within =
-    ap (λ (ps : List ℕ). numbers_staying width run (filter_map at ps)) (take_more places i 0 within)
-    ∙ ap (numbers_staying width run) (filter_map-append at (take i places) (get_or places i 0 ∷ []))
+    ap (numbers_staying width run) (place_more at places i within)
     ∙ numbers_staying-append width run (filter_map at (take i places)) (filter_map at (get_or places i 0 ∷ []))
 
 none_more : (b c : Bool) → b ≡ false → c ≡ false → (b || c) ≡ false
@@ -124,6 +134,14 @@ run_under width key run members is =
     ∙ (λ i. filter-twice (λ m. has_key width key (record { member = m; comes = true })) (λ m. not (is_one_of (gone_in run) m)) members i ++ (come_under width key run ∙ ap come_in is) i)
     )
     ∙ map-append (number_in width) (staying run (under width key members)) (come_in run)
+
+-- the same of rows that stand in any order
+pub numbers_later : (width : ℕ) (key : List ℤ) (run : List Change) (there members : List Member) → AreSame there (under width key members) → filter (has_key width key) run ≡ run
+    → AreSame (numbers_staying width run there ++ numbers_coming width run) (numbers_under width (changed run members) key)
+numbers_later width key run there members same is =
+    let numbers = same-map (number_in width) _ _ (same-filter (λ m. not (is_one_of (gone_in run) m)) there (under width key members) same) in
+    subst (AreSame (numbers_staying width run there ++ numbers_coming width run)) (sym (run_under width key run members is))
+    (same-append (numbers_staying width run there) (numbers_staying width run (under width key members)) (numbers_coming width run) (numbers_coming width run) numbers (same-refl (numbers_coming width run)))
 
 -- nothing is changed by no changes
 pub unchanged : (members : List Member) → changed [] members ≡ members

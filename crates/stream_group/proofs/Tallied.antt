@@ -4,9 +4,10 @@ use Rattle.std.specs.Prelude.{All}
 use Rattle.std.specs.Ordering.{int_eq}
 use Rattle.std.proofs.lemmas.List.{length-append}
 use Rattle.std.proofs.lemmas.List.Elements.{All-cons, All-head, All-nil, All-tail}
+use Rattle.plan_rules.specs.declared.rule.Collect.{Collect}
 use Rattle.plan_rules.specs.Bags.{AreSame}
 use Rattle.plan_rules.specs.Meaning.{IsKeyNumber}
-use Rattle.plan_rules.proofs.Sums.{list_any-same, same-append, same-refl, same-sym}
+use Rattle.plan_rules.proofs.Sums.{list_any-same, same-sym}
 use Rattle.stream_group.specs.declared.tally.Tally.{Tally}
 use Rattle.stream_group.specs.Collected.{AreFewKeys, counts_different, made_if_any, with_more}
 use Rattle.stream_group.specs.Tally.{SeesMore, Tallies, TalliesMore}
@@ -45,6 +46,6 @@ tallies-same tally xs ys same was = record {
   sees = λ different. (λ q. (was.sees different).0 q ∙ list_any-same (int_eq q) xs ys same, (was.sees different).1);
 }
 
-pub tallies_in_any_order : (one two : Tally) (xs ys : List ℤ) → AreSame xs ys → TalliesMore one two xs → TalliesMore one two ys
-tallies_in_any_order one two xs ys same more = λ numbers was.
-    tallies-same two (numbers ++ xs) (numbers ++ ys) (same-append numbers numbers xs ys (same-refl numbers) same) (more numbers was)
+-- a tally that begins anew has what its collector makes of the numbers that it takes, in any order
+pub made_anew : (one two : Tally) (collect : Collect) (xs ys : List ℤ) → Tallies one [] → two.collect ≡ collect → TalliesMore one two xs → AreSame xs ys → AreFewKeys ys → two.made ≡ made_if_any collect ys
+made_anew one two collect xs ys anew is more same few = (tallies-same two xs ys same (more [] anew)).made few ∙ ap (λ c. made_if_any c ys) is

@@ -14,7 +14,8 @@ pub struct GroupAhead {
     /// The rows that come, with their numbers.
     pub come: Vec<Member>,
     pub(crate) changes: Vec<Change>,
-    pub(crate) tally: Tally,
+    pub(crate) before: Tally,
+    pub(crate) after: Tally,
 }
 
 impl GroupAhead {
@@ -25,7 +26,8 @@ impl GroupAhead {
         GroupAhead {
             come: Vec::new(alloc),
             changes: Vec::new(alloc),
-            tally: Tally::new(alloc),
+            before: Tally::new(alloc),
+            after: Tally::new(alloc),
         }
     }
 

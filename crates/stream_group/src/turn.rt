@@ -1,10 +1,9 @@
 //! What the changed rows of each key make of its group.
-ghost use Rattle.std.specs.Prelude.{◌≡◌, ◌≤◌, ◌++◌, ◌∷◌, [], IfOk, OnOk, IsSortedBy, filter, length, map, take};
+ghost use Rattle.std.specs.Prelude.{◌≡◌, ◌≤◌, ◌++◌, ◌∷◌, [], OnOk, IsSortedBy, length, map, take};
 ghost use Rattle.std.specs.FinMap as map;
 ghost use Rattle.std.specs.List.{filter_map};
-ghost use Rattle.stream_heads.specs.Sides.{first_numbers, members_of};
-ghost use Rattle.stream_heads.specs.Standing.{AreAt};
-ghost use Rattle.stream_group.specs.Keyed.{IsRun, changed, is_before, numbers_coming, numbers_staying, under};
+ghost use Rattle.stream_heads.specs.Sides.{members_of};
+ghost use Rattle.stream_group.specs.Keyed.{IsRun, changed, is_before, number_in, numbers_coming, numbers_staying};
 ghost use Rattle.stream_group.specs.Tally.{TalliesMore};
 ghost use Rattle.stream_group.specs.Turns.{MakesUnder, TurnsAll, TurnsKey, group_cells, rows_of_key, unless_same};
 
@@ -59,41 +58,52 @@ fn push_turn(
     Ok(())
 }
 
-/// Takes the collected number of the row at a place, if it stays.
+/// Takes the collected number of the row at a place: before the changes of a run, and after them if it stays.
 fn tally_place(
     members: &Side,
     place: u64,
     run: &[Change],
     width: usize,
-    tally: &mut Tally,
+    before: &mut Tally,
+    after: &mut Tally,
 ) -> Result<(), Memory>
-    ensures tallies { let there = filter_map (map.get members.now.rows.now) (place ∷ []) in
-        OnOk result (TalliesMore tally.old tally.new (numbers_staying width run.now there)) }
-    ensures collect { tally.new.collect ≡ tally.old.collect }
+    ensures before { let there = filter_map (map.get members.now.rows.now) (place ∷ []) in
+        OnOk result (TalliesMore before.old before.new (map (number_in width) there)) }
+    ensures after { let there = filter_map (map.get members.now.rows.now) (place ∷ []) in
+        OnOk result (TalliesMore after.old after.new (numbers_staying width run.now there)) }
+    ensures collect_before { before.new.collect ≡ before.old.collect }
+    ensures collect_after { after.new.collect ≡ after.old.collect }
 {
     let Some(member) = members.live(place) else {
         return Ok(());
     };
+    let number = number_after(&member.numbers, width);
+    before.add(number)?;
     if !goes(run, member) {
-        tally.add(number_after(&member.numbers, width))?;
+        after.add(number)?;
     }
     Ok(())
 }
 
-/// Takes the collected numbers of the rows at these places that stay.
-fn tally_kept(
+/// Takes the collected numbers of the rows at these places: before the changes of a run, and after them of those that
+/// stay.
+fn tally_places(
     members: &Side,
     places: &[u64],
     run: &[Change],
     width: usize,
-    tally: &mut Tally,
+    before: &mut Tally,
+    after: &mut Tally,
 ) -> Result<(), Memory>
-    ensures tallies { let there = filter_map (map.get members.now.rows.now) places.now in
-        OnOk result (TalliesMore tally.old tally.new (numbers_staying width run.now there)) }
-    ensures collect { tally.new.collect ≡ tally.old.collect }
+    ensures before { let there = filter_map (map.get members.now.rows.now) places.now in
+        OnOk result (TalliesMore before.old before.new (map (number_in width) there)) }
+    ensures after { let there = filter_map (map.get members.now.rows.now) places.now in
+        OnOk result (TalliesMore after.old after.new (numbers_staying width run.now there)) }
+    ensures collect_before { before.new.collect ≡ before.old.collect }
+    ensures collect_after { after.new.collect ≡ after.old.collect }
 {
     for place in places {
-        tally_place(members, *place, run, width, tally)?;
+        tally_place(members, *place, run, width, before, after)?;
     }
     Ok(())
 }
@@ -120,27 +130,28 @@ fn tally_come(run: &[Change], width: usize, tally: &mut Tally) -> Result<(), Mem
     Ok(())
 }
 
-/// What is made of the rows under a key, which stand at these places, once the changes of a run are done.
-fn made_after(
+/// Tallies the rows under a key before the changes of a run are done, and those after. Each row is looked at once.
+fn tally_run(
     by: &Grouping,
     members: &Side,
     key: &Key,
-    places: &[u64],
     run: &[Change],
-    tally: &mut Tally,
-) -> Result<Option<i64>, Memory>
+    before: &mut Tally,
+    after: &mut Tally,
+) -> Result<(), Memory>
     requires width { members.now.width ≡ length by.now.keys }
-    requires there { let width = members.now.width in
-        AreAt (first_numbers width) (take width key.now) members.now.rows.now places.now }
     requires run { IsRun (length by.now.keys) key.now run.now }
-    ensures { let later = changed run.now (members_of members.now) in
-        IfOk result (λ made. MakesUnder by.now later (take (length by.now.keys) key.now) made) }
+    ensures before { let kept = members_of members.now in
+        OnOk result (MakesUnder by.now kept (take (length by.now.keys) key.now) before.new.made) }
+    ensures after { let later = changed run.now (members_of members.now) in
+        OnOk result (MakesUnder by.now later (take (length by.now.keys) key.now) after.new.made) }
 {
     let width = by.keys.len();
-    tally.restart(by.collect);
-    tally_kept(members, places, run, width, tally)?;
-    tally_come(run, width, tally)?;
-    Ok(tally.made)
+    before.restart(by.collect);
+    after.restart(by.collect);
+    tally_places(members, members.under(key), run, width, before, after)?;
+    tally_come(run, width, after)?;
+    Ok(())
 }
 
 /// What the changes of a run, which all have one key, make of its group.
@@ -149,7 +160,8 @@ fn turn(
     members: &Side,
     key: &Key,
     run: &[Change],
-    tally: &mut Tally,
+    before: &mut Tally,
+    after: &mut Tally,
     out: &mut CellsDelta,
 ) -> Result<(), Memory>
     requires width { members.now.width ≡ length by.now.keys }
@@ -158,10 +170,8 @@ fn turn(
     ensures { let kept = members_of members.now in
         OnOk result (TurnsKey by.now kept run.now (take (length by.now.keys) key.now) out.old out.new) }
 {
-    let places = members.under(key);
-    let before = made_after(by, members, key, places, &[], tally)?;
-    let after = made_after(by, members, key, places, run, tally)?;
-    push_turn(first(key, by.keys.len()), before, after, out)?;
+    tally_run(by, members, key, run, before, after)?;
+    push_turn(first(key, by.keys.len()), before.made, after.made, out)?;
     Ok(())
 }
 
@@ -170,7 +180,8 @@ pub fn turn_all(
     by: &Grouping,
     members: &Side,
     changes: &[Change],
-    tally: &mut Tally,
+    before: &mut Tally,
+    after: &mut Tally,
     out: &mut CellsDelta,
 ) -> Result<(), Memory>
     requires width { members.now.width ≡ length by.now.keys }
@@ -183,7 +194,7 @@ pub fn turn_all(
     while let Some(change) = rest.first() {
         let key = change.member.numbers;
         let len = run_len(rest, first(&key, width), width);
-        turn(by, members, &key, &rest[..len], tally, out)?;
+        turn(by, members, &key, &rest[..len], before, after, out)?;
         rest = &rest[len..];
     }
     Ok(())

@@ -3,5 +3,7 @@ pub mod Counting
 pub mod Leading
 pub mod Listing
 pub mod Meaning
+pub mod Pairs
 pub mod Placing
 pub mod Starts
+pub mod Wide

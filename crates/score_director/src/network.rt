@@ -232,6 +232,7 @@ pub fn foreseen<B: Book, L: Ledger>(
     ensures score { IfOk result (λ score. score ≡ whole_score B.meaning rules.now.defs weights.now plan.now) }
 {
     let mut totals = Vec::new(alloc);
+    totals.reserve(rules.defs.len())?;
     net.judge(rules, plan, keys, &mut totals, steps)?;
     score_from(alloc, rules, plan, weights, &totals, steps)
 }

@@ -3,16 +3,19 @@ ghost use Rattle.std.specs.Prelude.{◌≡◌, ◌+◌, ◌++◌, ◌∷◌, [],
 ghost use Rattle.stream_end.specs.Weights.{clipped, weighed};
 
 use plan_facts::Memory;
+use plan_rules::Row;
 use std::alloc::Global;
 use stream_heads::{Cells, Member};
 use stream_index::Key;
 
 /// What a look ahead finds: the rows that come with their match weights, which are none where nothing weighs them, and
-/// what all rows add up to once the change is done. It is lent to one look after the other.
+/// what all rows add up to once the change is done. It is lent to one look after the other, and with it any row, for its
+/// memory, that the weigher is asked of.
 #[derive(Drop)]
 pub struct EndAhead {
     pub come: Vec<Member>,
     pub total: u64,
+    pub(crate) asked: Row,
 }
 
 impl EndAhead {
@@ -24,6 +27,7 @@ impl EndAhead {
         EndAhead {
             come: Vec::new(alloc),
             total: 0,
+            asked: Row::new(alloc),
         }
     }
 

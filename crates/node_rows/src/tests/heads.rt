@@ -106,13 +106,32 @@ fn reads_one(heads: &Heads, place: u64) -> Result<bool, Memory> {
     Ok(heads.find(&lone) == Some(place))
 }
 
+/// Whether a row is a number and, behind it, another one.
+fn are_numbers(row: &Row, first: i64, second: i64) -> bool {
+    row.len() == 2
+        && matches!(row.part(0), Some(Part::Num(n)) if *n == first)
+        && matches!(row.part(1), Some(Part::Num(n)) if *n == second)
+}
+
+/// Whether rows of numbers alone are read into a row, and no others are.
+fn reads_numbers(alloc: Global, heads: &Heads, place: u64) -> Result<bool, Memory> {
+    let mut row = Row::new(alloc);
+    let first = heads.read_numbers(&Cells::of(&[Cell::Num(4), Cell::Num(-1)]), &mut row)?;
+    let are_first = are_numbers(&row, 4, -1);
+    let second = heads.read_numbers(&Cells::of(&[Cell::Num(7), Cell::Num(0)]), &mut row)?;
+    let are_second = are_numbers(&row, 7, 0);
+    let third = heads.read_numbers(&Cells::of(&[Cell::Num(7), Cell::Place(place)]), &mut row)?;
+    Ok(first && are_first && second && are_second && !third)
+}
+
 /// Whether rows of two records are read.
 fn reads_rows(alloc: Global, heads: &mut Heads) -> Result<bool, Memory> {
     let one = heads.add(record(alloc, 7))?;
     let two = heads.add(record(alloc, 9))?;
     let three = reads_three(heads, one, two)?;
     let lone = reads_one(heads, one)?;
-    Ok(three && lone)
+    let numbers = reads_numbers(alloc, heads, one)?;
+    Ok(three && lone && numbers)
 }
 
 #[test]

@@ -1,17 +1,17 @@
 -- What tallies stand for, one number after the other and in any order.
 use Rattle.std.proofs.Common.{◌≡◌, ◌∙◌, ℤ, Bool, List, [], ◌∷◌, ◌++◌, Option, Some, ap, sym, subst, append_assoc, arith}
 use Rattle.std.specs.Prelude.{All}
-use Rattle.std.specs.Ordering.{int_eq}
 use Rattle.std.proofs.lemmas.List.{length-append}
 use Rattle.std.proofs.lemmas.List.Elements.{All-cons, All-head, All-nil, All-tail}
 use Rattle.plan_rules.specs.declared.rule.Collect.{Collect}
 use Rattle.plan_rules.specs.Bags.{AreSame}
 use Rattle.plan_rules.specs.Meaning.{IsKeyNumber}
-use Rattle.plan_rules.proofs.Sums.{list_any-same, same-sym}
+use Rattle.plan_rules.proofs.Sums.{same-sym}
 use Rattle.stream_group.specs.declared.tally.Tally.{Tally}
 use Rattle.stream_group.specs.Collected.{AreFewKeys, counts_different, made_if_any, with_more}
 use Rattle.stream_group.specs.Tally.{SeesMore, Tallies, TalliesMore}
 use Rattle.stream_group.proofs.Collecting.{few-same, made-more, made_if_any-same}
+use Rattle.stream_group.proofs.Seen.{knows-same}
 
 keys_front : (xs ys : List ℤ) → All IsKeyNumber (xs ++ ys) → All IsKeyNumber xs
 keys_front [] ys all = All-nil IsKeyNumber
@@ -43,7 +43,7 @@ tallies_on one two three xs ys first second = λ numbers was. subst (Tallies thr
 tallies-same : (tally : Tally) (xs ys : List ℤ) → AreSame xs ys → Tallies tally xs → Tallies tally ys
 tallies-same tally xs ys same was = record {
   made = λ few. was.made (few-same ys xs (same-sym xs ys same) few) ∙ made_if_any-same tally.collect xs ys same;
-  sees = λ different. (λ q. (was.sees different).0 q ∙ list_any-same (int_eq q) xs ys same, (was.sees different).1);
+  sees = λ different. knows-same tally xs ys same (was.sees different);
 }
 
 -- a tally that begins anew has what its collector makes of the numbers that it takes, in any order

@@ -1,20 +1,21 @@
-use Rattle.std.proofs.Common.{SFits, rules, ℤ, true, subst, w64}
-use Rattle.std.specs.HashSet.{Updates}
-use Rattle.std.specs.Ordering.{int_eq}
+use Rattle.std.proofs.Common.{List, ℤ, ap, subst, to_z, of_z, SFits, w64, rules}
 use Rattle.std.proofs.lemmas.Int.{to_z-of_z}
-use Rattle.stream_group.proofs.Seen.{count_more, seen_more}
+use Rattle.std.proofs.lemmas.Result.{IfOk-weaker}
+use Rattle.stream_group.specs.Collected.{counts_different}
+use Rattle.stream_group.specs.Tally.{Knows, KnowsMore, Sees, SeesMore}
+use Rattle.stream_group.proofs.Seen.{seen_more}
 use Rattle.stream_group.proofs.tally.Tally.is_new.Goals as goal
 
-pub returns-in_ok-insert-in-CountDistinct-clause-seen : goal.returns-in_ok-insert-in-CountDistinct-clause-seen
-returns-in_ok-insert-in-CountDistinct-clause-seen c = λ numbers sees.
-    let said = c.in_ok-insert-in-CountDistinct.ensures in
-    let old = c.args.self.now.seen in
-    let new = c.insert.new.self in
+pub returns-in-CountDistinct-clause-seen : goal.returns-in-CountDistinct-clause-seen
+returns-in-CountDistinct-clause-seen c =
+    let old = c.args.self.now in
+    let new = c.note.new.self in
     let fits : SFits w64 c.args.number = search rules in
-    let updates = subst (λ (n : ℤ). Updates int_eq old new n true) (to_z-of_z w64 c.args.number fits) said.updates in
-    record {
-      sees = λ different. seen_more numbers c.args.number old new (sees different) updates said.unique;
-      count = λ different.
-          count_more numbers c.args.number old new c.in_ok-insert-in-CountDistinct.field-0 (sees different)
-          (seen_more numbers c.args.number old new (sees different) updates said.unique) said.len;
-    }
+    let handed = to_z w64 (of_z w64 c.args.number) in
+    let is = to_z-of_z w64 c.args.number fits in
+    IfOk-weaker c.note.result (λ is_new. (numbers : List ℤ) → Knows old numbers → KnowsMore new numbers handed is_new)
+    (λ is_new. (numbers : List ℤ) → Sees old numbers → SeesMore new numbers c.args.number is_new)
+    (λ is_new known numbers sees.
+    let more = known numbers (sees (ap counts_different c.in-CountDistinct.is)) in
+    seen_more new numbers c.args.number is_new (subst (λ (n : ℤ). KnowsMore new numbers n is_new) is more))
+    c.note.ensures.knows

@@ -3,19 +3,18 @@ ghost use Rattle.std.specs.Prelude.{◌≡◌, ◌+◌, ◌++◌, ◌∷◌, [],
 ghost use Rattle.stream_end.specs.Weights.{clipped, weighed};
 
 use plan_facts::Memory;
-use plan_rules::Row;
 use std::alloc::Global;
-use stream_heads::{Cells, Member};
+use stream_heads::{Cells, LastRow, Member};
 use stream_index::Key;
 
 /// What a look ahead finds: the rows that come with their match weights, which are none where nothing weighs them, and
-/// what all rows add up to once the change is done. It is lent to one look after the other, and with it any row, for its
-/// memory, that the weigher is asked of.
+/// what all rows add up to once the change is done. It is lent to one look after the other, and with it the row that the
+/// weigher was asked of last.
 #[derive(Drop)]
 pub struct EndAhead {
     pub come: Vec<Member>,
     pub total: u64,
-    pub(crate) asked: Row,
+    pub(crate) asked: LastRow,
 }
 
 impl EndAhead {
@@ -27,7 +26,7 @@ impl EndAhead {
         EndAhead {
             come: Vec::new(alloc),
             total: 0,
-            asked: Row::new(alloc),
+            asked: LastRow::new(alloc),
         }
     }
 
@@ -45,6 +44,7 @@ impl EndAhead {
         ensures come { let known = self.old.come.items in
             OnOk result (self.new.come.items ≡ known ++ weighed cells.now weight ∷ []) }
         ensures total { OnOk result (self.new.total ≡ clipped (self.old.total + weight)) }
+        ensures asked { self.new.asked ≡ self.old.asked }
     {
         self.come.push(Member {
             cells: *cells,

@@ -2,6 +2,7 @@ pub mod Among
 pub mod CellLaws
 pub mod Found
 pub mod HeadLaws
+pub mod LastLaws
 pub mod Lists
 pub mod Meanings
 pub mod RowNumbers

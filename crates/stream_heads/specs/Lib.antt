@@ -6,6 +6,7 @@ pub mod Equality
 pub mod Exact
 pub mod Filled
 pub mod FilledBack
+pub mod Last
 pub mod Meant
 pub mod MemberEquality
 pub mod Numbers

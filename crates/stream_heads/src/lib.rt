@@ -3,8 +3,10 @@
 
 mod cells;
 mod delta;
+mod head;
 mod heads;
 mod indexed;
+mod last;
 mod member;
 mod placed;
 mod side;
@@ -13,6 +15,7 @@ pub use cells::{Cell, Cells, WIDEST};
 pub use delta::CellsDelta;
 pub use heads::Heads;
 pub use indexed::Indexed;
+pub use last::LastRow;
 pub use member::Member;
 pub use placed::Placed;
 pub use side::Side;

@@ -4,11 +4,12 @@ use crate::cells::Cells;
 use crate::placed::Placed;
 use stream_index::Key;
 
-/// A row with the numbers that closures answered for it. The numbers stand first, beside the first cell.
+/// A row with the numbers that closures answered for it. The cells stand first: mostly a look at a row reads how many it
+/// has and the first one, and the numbers only where joiners ask for more than equal ones.
 #[derive(Clone, Copy, Debug)]
 pub struct Member {
-    pub numbers: Key,
     pub cells: Cells,
+    pub numbers: Key,
 }
 
 impl Placed for Member {

@@ -8,4 +8,4 @@ pub returns-in-Some-head-clause-now : goal.returns-in-Some-head-clause-now
 returns-in-Some-head-clause-now c = without_single _ _ _ _ c.in-Some.ensures c.kill.ensures.now
 
 pub returns-in-None-clause-now : goal.returns-in-None-clause-now
-returns-in-None-clause-now c = without_dead _ _ _ c.in-Some.ensures c.in-None.ensures
+returns-in-None-clause-now c = without_dead _ _ _ c.in-Some.ensures c.in-None.ensures.lent

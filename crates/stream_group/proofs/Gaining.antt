@@ -30,7 +30,7 @@ use Rattle.stream_group.specs.declared.change.Change.{Change}
 use Rattle.stream_group.specs.declared.grouping.Grouping.{Grouping}
 use Rattle.stream_group.specs.Collected.{AreFewKeys, made_if_any}
 use Rattle.stream_group.specs.Group.{IsGrouped, LeadsNumbered, LeftsLead, group_rows, numbers_at}
-use Rattle.stream_group.specs.Keyed.{changed, come_in, coming, gone_in, has_key, is_one_of, leaving, number_in, staying, under}
+use Rattle.stream_group.specs.Keyed.{AreThere, changed, come_in, coming, gone_in, has_key, is_one_of, leaving, number_in, staying, under}
 use Rattle.stream_group.specs.Turns.{TurnsAll, is_one_key, key_comes, key_goes, made_under, rows_of_key, unless_same}
 use Rattle.stream_group.proofs.Collecting.{keys-same, length-same, made_if_any-same}
 use Rattle.stream_group.proofs.Exactly.{count_of, groups_exact, key_in, only_its_turn, same_made}
@@ -97,15 +97,34 @@ later_rows lefts gone come later different exact = record {
       omega (arith, a, b, sum_by-append f (without gone lefts) gone, sum_by-append f (without gone lefts) come, sum_by-append f lefts come, sum_by-append f later gone);
 }
 
+-- the rows that stay are those that are left of the old ones
+stay_rows : (numbers : List Cell → List ℤ) (lefts gone : List (List Cell)) (kept : List Member) (changes : List Change) → AreSame kept (all_numbered numbers lefts)
+    → AreSame (gone_in changes) (all_numbered numbers gone) → AreSame (staying changes kept) (all_numbered numbers (without gone lefts))
+stay_rows numbers lefts gone kept changes same is_gone =
+    let stay : staying changes kept ≡ filter (λ m. not (is_one_of (all_numbered numbers gone) m)) kept = λ i. filter (λ m. not (list_any-same (same_member m) (gone_in changes) (all_numbered numbers gone) is_gone i)) kept in
+    subst (λ (ms : List Member). AreSame ms (all_numbered numbers (without gone lefts))) (sym stay)
+    (subst (λ (ms : List Member). AreSame (filter (λ m. not (is_one_of (all_numbered numbers gone) m)) kept) ms) (stays_numbered numbers gone lefts) (same-filter (λ m. not (is_one_of (all_numbered numbers gone) m)) kept (all_numbered numbers lefts) same))
+
+-- the rows that go are there, and go once each
+all_there : (numbers : List Cell → List ℤ) (lefts gone come : List (List Cell)) (kept : List Member) (changes : List Change) → AreDifferent lefts → IsPartOf gone lefts
+    → AreSame kept (all_numbered numbers lefts) → AreSame (map leaving (all_numbered numbers gone) ++ map coming (all_numbered numbers come)) changes → AreThere changes kept
+all_there numbers lefts gone come kept changes different part same changes_same =
+    let is_gone = gone_are (all_numbered numbers gone) (all_numbered numbers come) changes changes_same in
+    record {
+      sums = λ f.
+          let a = same.sums f in
+          let b = (without_gone gone lefts different part).sums (λ row. f (numbered numbers row)) in
+          let c = (stay_rows numbers lefts gone kept changes same is_gone).sums f in
+          let d = is_gone.sums f in
+          omega (arith, a, b, c, d, sum_by-append f (staying changes kept) (gone_in changes), sum_by-append (λ row. f (numbered numbers row)) (without gone lefts) gone, sum_by-map f (numbered numbers) lefts, sum_by-map f (numbered numbers) (without gone lefts), sum_by-map f (numbered numbers) gone);
+    }
+
 changed_later : (numbers : List Cell → List ℤ) (lefts gone come later : List (List Cell)) (kept : List Member) (changes : List Change) → AreDifferent lefts → IsExact lefts gone come later
     → AreSame kept (all_numbered numbers lefts) → AreSame (map leaving (all_numbered numbers gone) ++ map coming (all_numbered numbers come)) changes → AreSame (changed changes kept) (all_numbered numbers later)
 changed_later numbers lefts gone come later kept changes different exact same changes_same =
     let is_gone = gone_are (all_numbered numbers gone) (all_numbered numbers come) changes changes_same in
     let is_come = come_are (all_numbered numbers gone) (all_numbered numbers come) changes changes_same in
-    let stay : staying changes kept ≡ filter (λ m. not (is_one_of (all_numbered numbers gone) m)) kept = λ i. filter (λ m. not (list_any-same (same_member m) (gone_in changes) (all_numbered numbers gone) is_gone i)) kept in
-    let stays : AreSame (staying changes kept) (all_numbered numbers (without gone lefts)) =
-    subst (λ (ms : List Member). AreSame ms (all_numbered numbers (without gone lefts))) (sym stay)
-    (subst (λ (ms : List Member). AreSame (filter (λ m. not (is_one_of (all_numbered numbers gone) m)) kept) ms) (stays_numbered numbers gone lefts) (same-filter (λ m. not (is_one_of (all_numbered numbers gone) m)) kept (all_numbered numbers lefts) same)) in
+    let stays = stay_rows numbers lefts gone kept changes same is_gone in
     same-trans (changed changes kept) (all_numbered numbers (without gone lefts ++ come)) (all_numbered numbers later)
     (subst (λ (ms : List Member). AreSame (changed changes kept) ms) (sym (map-append (numbered numbers) (without gone lefts) come)) (same-append _ _ _ _ stays is_come))
     (same-map (numbered numbers) (without gone lefts ++ come) later (later_rows lefts gone come later different exact))
@@ -171,7 +190,7 @@ gains m heads by left kept changes before out lefts later stands leads range sam
       keys = keys_of_stay w changes kept (all_numbered numbers left.come.items) stands.keys range (come_are (all_numbered numbers left.gone.items) (all_numbered numbers left.come.items) changes same);
       few = let a = length-same after (all_numbered numbers later) is_later in let b = leads.few in omega (arith, a, b, length-map after (number_in w), length-map later (numbered numbers));
     } in
-    let turns = turns_all few few_later in
+    let turns = turns_all (all_there numbers lefts left.gone.items left.come.items kept changes leads.different leads.exact.there stands.members same) few few_later in
     let apart = rising_from_pairs (λ one other. one ≢ other) turns.keys turns.different in
     let made_before : List ℤ → Option ℤ = λ key. made_under by kept key in
     let made_after : List ℤ → Option ℤ = λ key. made_under by after key in

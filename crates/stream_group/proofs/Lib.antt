@@ -1,5 +1,7 @@
 pub mod Asked
+pub mod Bits
 pub mod Collecting
+pub mod Counting
 pub mod Counts
 pub mod Exactly
 pub mod Finding
@@ -7,6 +9,7 @@ pub mod Gaining
 pub mod KeyCounts
 pub mod KeyRows
 pub mod Listed
+pub mod Noting
 pub mod Runs
 pub mod Seen
 pub mod Starts

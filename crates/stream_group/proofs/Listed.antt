@@ -125,6 +125,12 @@ come_under width key run =
     filter-mapped (λ m. has_key width key (record { member = m; comes = true })) (λ (c : Change). c.member) (filter (λ (c : Change). c.comes) run)
     ∙ ap (map (λ (c : Change). c.member)) (filter-twice (has_key width key) (λ (c : Change). c.comes) run)
 
+-- of changes that have a key, all rows that go are under it
+pub gone_under : (width : ℕ) (key : List ℤ) (run : List Change) → under width key (gone_in run) ≡ gone_in (filter (has_key width key) run)
+gone_under width key run =
+    filter-mapped (λ m. has_key width key (record { member = m; comes = true })) (λ (c : Change). c.member) (filter (λ (c : Change). not c.comes) run)
+    ∙ ap (map (λ (c : Change). c.member)) (filter-twice (has_key width key) (λ (c : Change). not c.comes) run)
+
 -- the collected numbers under a key once the changes of a run with that key are done
 pub run_under : (width : ℕ) (key : List ℤ) (run : List Change) (members : List Member) → filter (has_key width key) run ≡ run
     → numbers_under width (changed run members) key ≡ numbers_staying width run (under width key members) ++ numbers_coming width run

@@ -9,10 +9,12 @@ use Rattle.std.proofs.lemmas.Map.Steps.{list_any_congr}
 use Rattle.plan_rules.specs.Bags.{AreSame}
 use Rattle.plan_rules.proofs.Sums.{list_any-same}
 use Rattle.stream_group.specs.declared.tally.Tally.{Tally}
-use Rattle.stream_group.specs.Tally.{Knows, KnowsMore, SeesMore}
+use Rattle.stream_group.specs.declared.noted.Noted.{Noted}
+use Rattle.stream_group.specs.Noted.{Knows, KnowsMore}
+use Rattle.stream_group.specs.Tally.{SeesMore}
 
 -- the numbers of a list and one more
-member-push : (xs : List ℤ) (n q : ℤ) → is_member int_eq (xs ++ n ∷ []) q ≡ (is_member int_eq xs q || int_eq q n)
+pub member-push : (xs : List ℤ) (n q : ℤ) → is_member int_eq (xs ++ n ∷ []) q ≡ (is_member int_eq xs q || int_eq q n)
 member-push xs n q = list_any-append (int_eq q) xs (n ∷ []) ∙ ap (λ (b : Bool). is_member int_eq xs q || b) (or-false (int_eq q n))
 
 -- how many different numbers, where the first is the last too, comes again, and the last is among the rest, or not
@@ -36,12 +38,12 @@ count_push (x ∷ xs) n =
     ∙ counted (unique_keys int_eq xs) after x (int_eq n x) (is_member int_eq xs x) (is_member int_eq xs n) rest (λ same. sym (list_any_congr int_eq_equiv n x xs same))
 
 -- a number that a tally knows besides is seen, and counts if it is new
-pub seen_more : (tally : Tally) (numbers : List ℤ) (number : ℤ) (is_new : Bool) → KnowsMore tally numbers number is_new → SeesMore tally numbers number is_new
+pub seen_more : (tally : Tally) (numbers : List ℤ) (number : ℤ) (is_new : Bool) → KnowsMore tally.noted numbers number is_new → SeesMore tally numbers number is_new
 seen_more tally numbers number is_new more = record {
   sees = λ _. more.knows;
   count = λ _. count_push numbers number ∙ ap (λ (b : Bool). cond b 1 0 + distinct_count int_eq numbers) (sym more.new);
 }
 
--- a tally knows the same numbers in another order
-pub knows-same : (tally : Tally) (xs ys : List ℤ) → AreSame xs ys → Knows tally xs → Knows tally ys
-knows-same tally xs ys same was = record { same = λ q. was.same q ∙ list_any-same (int_eq q) xs ys same; first = was.first }
+-- the same numbers were noted in another order
+pub knows-same : (noted : Noted) (xs ys : List ℤ) → AreSame xs ys → Knows noted xs → Knows noted ys
+knows-same noted xs ys same was = record { same = λ q. was.same q ∙ list_any-same (int_eq q) xs ys same; first = was.first }

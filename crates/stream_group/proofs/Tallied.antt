@@ -43,7 +43,7 @@ tallies_on one two three xs ys first second = λ numbers was. subst (Tallies thr
 tallies-same : (tally : Tally) (xs ys : List ℤ) → AreSame xs ys → Tallies tally xs → Tallies tally ys
 tallies-same tally xs ys same was = record {
   made = λ few. was.made (few-same ys xs (same-sym xs ys same) few) ∙ made_if_any-same tally.collect xs ys same;
-  sees = λ different. knows-same tally xs ys same (was.sees different);
+  sees = λ different. knows-same tally.noted xs ys same (was.sees different);
 }
 
 -- a tally that begins anew has what its collector makes of the numbers that it takes, in any order

@@ -11,6 +11,7 @@ use Rattle.std.proofs.lemmas.Grind.{flat_map-append}
 use Rattle.std.proofs.lemmas.Map.Made.{is_member-Decides}
 use Rattle.plan_rules.specs.Bags.{AreDifferent}
 use Rattle.plan_rules.specs.Meaning.{IsKeyNumber}
+use Rattle.plan_rules.proofs.Sums.{same-filter}
 use Rattle.stream_index.specs.Key.{key_eq}
 use Rattle.stream_heads.specs.declared.cells.Cell.{Cell}
 use Rattle.stream_heads.specs.declared.delta.CellsDelta.{CellsDelta}
@@ -19,10 +20,11 @@ use Rattle.stream_heads.specs.MemberEquality.{member_decides, same_member}
 use Rattle.stream_group.specs.declared.change.Change.{Change}
 use Rattle.stream_group.specs.declared.grouping.Grouping.{Grouping}
 use Rattle.stream_group.specs.Collected.{AreFewKeys, made_if_any}
-use Rattle.stream_group.specs.Keyed.{change_key, changed, come_in, gone_in, has_key, is_one_of, number_in, staying, under}
+use Rattle.stream_group.specs.Keyed.{AreThere, AreThereUnder, change_key, changed, come_in, gone_in, has_key, is_one_of, number_in, staying, under}
 use Rattle.stream_group.specs.Turns.{TurnsAll, TurnsKey, is_one_key, key_comes, key_goes, made_under, numbers_under, rows_of_key, unless_same}
+use Rattle.stream_group.proofs.Collecting.{length-same}
 use Rattle.stream_group.proofs.KeyCounts.{key_decides}
-use Rattle.stream_group.proofs.Listed.{come_under}
+use Rattle.stream_group.proofs.Listed.{come_under, gone_under}
 use Rattle.stream_group.proofs.Runs.{InOrder, first_key, order_rest, run_is, run_passes, taken_run}
 
 -- a filter of a test that agrees
@@ -97,6 +99,19 @@ changed_under width key changes members =
     ++ (come_under width key changes ∙ ap come_in (sym (filter-again (has_key width key) changes)) ∙ sym (come_under width key under_key)) i)
     ∙ sym (filter-append p (staying under_key members) (come_in under_key))
 
+-- where the rows that go are there, under a key there are as many as stay of its changes and go by them
+pub there_under : (width : ℕ) (key : List ℤ) (changes run : List Change) (members : List Member) → AreThere changes members → filter (has_key width key) changes ≡ run → AreThereUnder width key run members
+there_under width key changes run members there is =
+    let p : Member → Bool = λ m. key_eq (take width m.numbers) key in
+    let under_key = filter (has_key width key) changes in
+    let stay : filter p (staying changes members) ≡ filter p (staying run members) =
+    filter_where p (λ m. not (is_one_of (gone_in changes) m)) (λ m. not (is_one_of (gone_in under_key) m)) members (λ m is. ap not (gone_with width key m changes is))
+    ∙ ap (λ (cs : List Change). filter p (staying cs members)) is in
+    let go : filter p (gone_in changes) ≡ gone_in run = gone_under width key changes ∙ ap gone_in is in
+    length-same (filter p members) (filter p (staying changes members ++ gone_in changes)) (same-filter p members (staying changes members ++ gone_in changes) there)
+    ∙ ap (λ (ms : List Member). length ms) (filter-append p (staying changes members) (gone_in changes) ∙ (λ i. stay i ++ go i))
+    ∙ length-append (filter p (staying run members)) (gone_in run)
+
 pub keys_kept : (f : Member → ℤ) (p : Member → Bool) (ms : List Member) → All IsKeyNumber (map f ms) → All IsKeyNumber (map f (filter p ms))
 keys_kept f p [] all = all
 keys_kept f p (m ∷ ms) all =
@@ -142,7 +157,7 @@ pub record Turned (by : Grouping) (members : List Member) (changes rest : List C
   pub different : AreDifferent keys
   pub known : (key : List ℤ) → is_one_key keys key ≡ false → filter (has_key (length by.keys) key) front ≡ []
   pub apart : (key : List ℤ) → is_one_key keys key ≡ true → filter (has_key (length by.keys) key) rest ≡ []
-  pub rows : AreFewKeys (map (number_in (length by.keys)) members) → AreFewKeys (map (number_in (length by.keys)) (changed changes members))
+  pub rows : AreThere changes members → AreFewKeys (map (number_in (length by.keys)) members) → AreFewKeys (map (number_in (length by.keys)) (changed changes members))
       → (after.gone.items ≡ before.gone.items ++ flat_map (key_goes by members (changed changes members)) keys)
       × (after.come.items ≡ before.come.items ++ flat_map (key_comes by members (changed changes members)) keys)
 
@@ -154,16 +169,16 @@ none_turned by members changes before = record {
   different = λ i j d below within. absurd (omega (arith, within));
   known = λ key is. refl;
   apart = λ key is. absurd (let no : false ≡ true = is in cc);
-  rows = λ few few_later. (sym (append-nil before.gone.items), sym (append-nil before.come.items));
+  rows = λ there few few_later. (sym (append-nil before.gone.items), sym (append-nil before.come.items));
 }
 
 pub all_turned : (by : Grouping) (members : List Member) (changes rest : List Change) (before after : CellsDelta) → rest ≡ [] → Turned by members changes rest before after → TurnsAll by members changes before after
-all_turned by members changes rest before after none turned = λ few few_later. record {
+all_turned by members changes rest before after none turned = λ there few few_later. record {
   keys = turned.keys;
   different = turned.different;
   all = λ key is. ap (filter (has_key (length by.keys) key)) (turned.parts ∙ ap (λ (xs : List Change). turned.front ++ xs) none ∙ append-nil turned.front) ∙ turned.known key is;
-  gone = (turned.rows few few_later).0;
-  come = (turned.rows few few_later).1;
+  gone = (turned.rows there few few_later).0;
+  come = (turned.rows there few few_later).1;
 }
 
 module _ (by : Grouping) (members : List Member) (changes : List Change) (x : Change) (rest : List Change) (before mid after : CellsDelta) where
@@ -228,9 +243,9 @@ module _ (by : Grouping) (members : List Member) (changes : List Change) (x : Ch
             | false ↦ λ not_here. absurd (let no : true ≡ false = sym is ∙ among q ∙ (λ i. not_there i || (not_here i || false)) in cc)
           ] refl
         ] refl;
-        rows = λ few few_later.
-            let was = turned.rows few few_later in
-            let now = turns (few_under width members key few) (subst AreFewKeys (sym same) (few_under width later key few_later)) in
+        rows = λ there few few_later.
+            let was = turned.rows there few few_later in
+            let now = turns (there_under width key changes run members there in_run) (few_under width members key few) (subst AreFewKeys (sym same) (few_under width later key few_later)) in
             let made : made_under by (changed run members) key ≡ made_under by later key = ap (made_if_any by.collect) same in (
               joined (key_goes by members later) before.gone.items mid.gone.items after.gone.items turned.keys key was.0 (now.0 ∙ ap (λ m. mid.gone.items ++ unless_same (made_under by members key) m (rows_of_key key (made_under by members key))) made),
               joined (key_comes by members later) before.come.items mid.come.items after.come.items turned.keys key was.1 (now.1 ∙ ap (λ m. mid.come.items ++ unless_same (made_under by members key) m (rows_of_key key m)) made),

@@ -1,8 +1,9 @@
 -- Rows with their numbers, as groups see them.
-use Rattle.std.specs.Prelude.{◌≡◌, not, ℕ, ℤ, pos, Bool, true, false, List, ◌++◌, filter, map, slice_index_or, take}
+use Rattle.std.specs.Prelude.{◌≡◌, ◌+◌, not, ℕ, ℤ, pos, Bool, true, false, List, ◌++◌, filter, length, map, slice_index_or, take}
 use Rattle.std.specs.List.{list_any}
 use Rattle.std.specs.Ordering.{int_cmp, is_lt}
 use Rattle.std.specs.Cmp.Lexicographic.{slice_cmp}
+use Rattle.plan_rules.specs.Bags.{AreSame}
 use Rattle.stream_index.specs.Key.{key_eq}
 use Rattle.stream_heads.specs.declared.member.Member.{Member}
 use Rattle.stream_heads.specs.MemberEquality.{same_member}
@@ -59,6 +60,15 @@ staying changes members = filter (λ member. not (is_one_of (gone_in changes) me
 -- the rows without those that go, and with those that come
 abbrev pub changed : List Change → List Member → List Member
 changed changes members = staying changes members ++ come_in changes
+
+-- the rows that go are there, and go once each
+abbrev pub AreThere : List Change → List Member → Type 0
+AreThere changes members = AreSame members (staying changes members ++ gone_in changes)
+
+-- under a key there are as many rows as stay and go
+abbrev pub AreThereUnder : ℕ → List ℤ → List Change → List Member → Type 0
+AreThereUnder width key changes members =
+    length (under width key members) ≡ length (under width key (staying changes members)) + length (gone_in changes)
 
 -- the collected numbers of those of the rows that stay
 abbrev pub numbers_staying : ℕ → List Change → List Member → List ℤ

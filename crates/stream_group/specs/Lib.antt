@@ -5,6 +5,7 @@ pub mod Grouped
 pub mod Keyed
 pub mod Laws
 pub mod Nodes
+pub mod Noted
 pub mod Tally
 pub mod Turns
 pub mod Whole

@@ -3,9 +3,11 @@
 
 mod ahead;
 mod change;
+mod count;
 mod group;
 mod grouping;
 mod laws;
+mod noted;
 mod tally;
 mod turn;
 

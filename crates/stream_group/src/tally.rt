@@ -1,25 +1,20 @@
 //! What a collector makes of numbers that come one after the other.
 ghost use Rattle.std.specs.Prelude.{◌≡◌, ◌++◌, ◌∷◌, [], List, ℤ, IfOk, OnOk};
-ghost use Rattle.std.specs.HashSet.{IsEmpty};
 ghost use Rattle.stream_group.specs.Collected.{with_more};
-ghost use Rattle.stream_group.specs.Tally.{Knows, KnowsMore, Sees, SeesMore, Tallies, TalliesMore};
+ghost use Rattle.stream_group.specs.Tally.{Sees, SeesMore, Tallies, TalliesMore};
 
+use crate::noted::Noted;
 use plan_facts::Memory;
 use plan_rules::Collect;
 use std::alloc::Global;
-use std::collections::HashSet;
-
-/// As many different numbers stand in the list, and are found by going through it.
-const FEW: usize = 16;
 
 /// What a collector has made of some numbers, which is used again for others. Where these are keys' numbers of at most
-/// 2^32 rows, their sum fits. Of different numbers the first few stand in a list, and the others in a set.
+/// 2^32 rows, their sum fits.
 #[derive(Drop)]
 pub struct Tally {
     pub collect: Collect,
     pub made: Option<i64>,
-    pub few: Vec<i64>,
-    pub more: HashSet<i64>,
+    pub noted: Noted,
 }
 
 /// What a collector makes of one number more, from what it made of those before.
@@ -39,15 +34,6 @@ fn with_more(collect: Collect, made: Option<i64>, number: i64, is_new: bool) -> 
     }
 }
 
-/// Forgets a set's numbers. Clearing goes through all the room that a set ever had, so an empty one is left alone.
-fn forget(numbers: &mut HashSet<i64>)
-    ensures { IsEmpty numbers.new }
-{
-    if !numbers.is_empty() {
-        numbers.clear();
-    }
-}
-
 impl Tally {
     /// A tally of no numbers.
     pub fn new(alloc: Global) -> Tally
@@ -56,8 +42,7 @@ impl Tally {
         Tally {
             collect: Collect::Count,
             made: None,
-            few: Vec::new(alloc),
-            more: HashSet::new(alloc),
+            noted: Noted::new(alloc),
         }
     }
 
@@ -68,25 +53,7 @@ impl Tally {
     {
         self.collect = collect;
         self.made = None;
-        self.few.clear();
-        forget(&mut self.more);
-    }
-
-    /// Takes note of a number, and answers whether it is new.
-    fn note(&mut self, number: i64) -> Result<bool, Memory>
-        ensures knows { IfOk result (λ is_new. (numbers : List ℤ) → Knows self.old numbers
-            → KnowsMore self.new numbers number is_new) }
-        ensures made { self.new.made ≡ self.old.made }
-        ensures collect { self.new.collect ≡ self.old.collect }
-    {
-        if self.few.contains(&number) {
-            return Ok(false);
-        }
-        if self.few.len() < FEW {
-            self.few.push(number)?;
-            return Ok(true);
-        }
-        Ok(self.more.insert(number)?)
+        self.noted.clear();
     }
 
     /// Takes note of a number where only different ones count, and answers whether it is new then.
@@ -97,7 +64,7 @@ impl Tally {
         ensures collect { self.new.collect ≡ self.old.collect }
     {
         match self.collect {
-            Collect::CountDistinct(_) => self.note(number),
+            Collect::CountDistinct(_) => self.noted.note(number),
             _ => Ok(true),
         }
     }

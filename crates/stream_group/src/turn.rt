@@ -5,12 +5,14 @@ ghost use Rattle.std.specs.List.{filter_map};
 ghost use Rattle.stream_heads.specs.Sides.{members_of};
 ghost use Rattle.stream_group.specs.Keyed.{IsRun, changed, is_before, number_in, numbers_coming, numbers_staying};
 ghost use Rattle.stream_group.specs.Tally.{TalliesMore};
-ghost use Rattle.stream_group.specs.Turns.{MakesUnder, TurnsAll, TurnsKey, group_cells, rows_of_key, unless_same};
+ghost use Rattle.stream_group.specs.Turns.{MakesLater, MakesUnder, TurnsAll, TurnsKey, group_cells, rows_of_key, unless_same};
 
 use crate::change::{Change, first, goes, number_after, run_len};
+use crate::count::count_run;
 use crate::grouping::Grouping;
 use crate::tally::Tally;
 use plan_facts::Memory;
+use plan_rules::Collect;
 use stream_heads::{Cell, Cells, CellsDelta, Member, Side};
 use stream_index::Key;
 
@@ -131,7 +133,7 @@ fn tally_come(run: &[Change], width: usize, tally: &mut Tally) -> Result<(), Mem
 }
 
 /// Tallies the rows under a key before the changes of a run are done, and those after. Each row is looked at once.
-fn tally_run(
+fn visit_run(
     by: &Grouping,
     members: &Side,
     key: &Key,
@@ -152,6 +154,32 @@ fn tally_run(
     tally_places(members, members.under(key), run, width, before, after)?;
     tally_come(run, width, after)?;
     Ok(())
+}
+
+/// Tallies the rows under a key before the changes of a run are done, and those after, where the rows that go are there.
+/// Each row is looked at once, and none where they are counted.
+fn tally_run(
+    by: &Grouping,
+    members: &Side,
+    key: &Key,
+    run: &[Change],
+    before: &mut Tally,
+    after: &mut Tally,
+) -> Result<(), Memory>
+    requires width { members.now.width ≡ length by.now.keys }
+    requires run { IsRun (length by.now.keys) key.now run.now }
+    ensures before { let kept = members_of members.now in
+        OnOk result (MakesUnder by.now kept (take (length by.now.keys) key.now) before.new.made) }
+    ensures after { let kept = members_of members.now in
+        OnOk result (MakesLater by.now kept run.now (take (length by.now.keys) key.now) after.new.made) }
+{
+    match by.collect {
+        Collect::Count => {
+            count_run(members, key, run, before, after);
+            Ok(())
+        }
+        _ => visit_run(by, members, key, run, before, after),
+    }
 }
 
 /// What the changes of a run, which all have one key, make of its group.

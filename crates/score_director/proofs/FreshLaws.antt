@@ -50,7 +50,7 @@ use Rattle.score_director.specs.NetState.{IsNet}
 use Rattle.score_director.specs.Nodes.{KindHolds, is_open, is_torn, station_of}
 use Rattle.score_director.specs.Rule.{HasPlaces, IsNetOf, IsRuleIdle, IsRuleWhole, KnowsClasses, RuleHolds, end_cells}
 use Rattle.score_director.specs.Stations as station
-use Rattle.score_director.specs.Stations.{Station, cells_after, cells_behind, head_cells, head_stations, stations_of}
+use Rattle.score_director.specs.Stations.{Station, cells_after, cells_behind, head_cells, head_stations}
 
 -- no record takes part
 abbrev none : Takers

@@ -11,7 +11,7 @@ use Rattle.plan_rules.specs.Meaning.{Meaning}
 use Rattle.plan_rules.specs.Named.{head_parts, parts_after}
 use Rattle.plan_rules.specs.Order.{AreById}
 use Rattle.plan_rules.specs.Rows as rows
-use Rattle.plan_rules.specs.Rows.{Facts, head_rows, is_placed, node_rows, nodes_rows, row_of, rule_rows}
+use Rattle.plan_rules.specs.Rows.{Facts, head_rows, node_rows, nodes_rows, row_of, rule_rows}
 use Rattle.plan_rules.proofs.Streams.{nodes_keep_sameness}
 use Rattle.plan_rules.proofs.Sums.{same-map, same-refl, same-trans}
 use Rattle.stream_heads.specs.declared.cells.Cell.{Cell}

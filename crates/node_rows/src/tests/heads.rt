@@ -1,11 +1,12 @@
 //! Records under places, and rows of places, as they come and go in trials.
 ghost use Rattle.std.specs.Prelude.{◌≡◌, ◌≤◌, false, length, OnOk};
+ghost use Rattle.stream_heads.specs.Last.{IsReadBy};
 
 use plan_facts::{List, Memory, Rec};
 use plan_rules::{Part, Row};
 use std::alloc::Global;
 use std::test::Fail;
-use stream_heads::{Cell, Cells, Heads, Indexed, Member, Side};
+use stream_heads::{Cell, Cells, Heads, Indexed, LastRow, Member, Side};
 use stream_index::Key;
 
 /// A record of class 0 without fields.
@@ -49,13 +50,14 @@ fn changes_records(alloc: Global, heads: &mut Heads, place: u64) -> Result<bool,
     let other = heads.add(record(alloc, 2))?;
     let were_live = kill_live(heads, other) && kill_live(heads, place);
     heads.add(record(alloc, 3))?;
-    Ok(were_live && id_at(heads, place).is_none())
+    Ok(were_live && id_at(heads, place).is_none() && heads.id_at(place) == 0)
 }
 
 /// Whether just the record of id 1 stands, at this place.
 fn stands_alone(heads: &Heads, place: u64) -> bool {
     heads.at(0, 1) == [place].as_slice()
         && matches!(id_at(heads, place), Some(1))
+        && heads.id_at(place) == 1
         && has_none(heads, 2)
         && has_none(heads, 3)
 }
@@ -113,25 +115,58 @@ fn are_numbers(row: &Row, first: i64, second: i64) -> bool {
         && matches!(row.part(1), Some(Part::Num(n)) if *n == second)
 }
 
-/// Whether rows of numbers alone are read into a row, and no others are.
-fn reads_numbers(alloc: Global, heads: &Heads, place: u64) -> Result<bool, Memory> {
-    let mut row = Row::new(alloc);
-    let first = heads.read_numbers(&Cells::of(&[Cell::Num(4), Cell::Num(-1)]), &mut row)?;
-    let are_first = are_numbers(&row, 4, -1);
-    let second = heads.read_numbers(&Cells::of(&[Cell::Num(7), Cell::Num(0)]), &mut row)?;
-    let are_second = are_numbers(&row, 7, 0);
-    let third = heads.read_numbers(&Cells::of(&[Cell::Num(7), Cell::Place(place)]), &mut row)?;
-    Ok(first && are_first && second && are_second && !third)
+/// Whether a row is the records of two ids.
+fn are_records(row: &Row, first: u32, second: u32) -> bool {
+    row.len() == 2 && is_record(row.part(0), first) && is_record(row.part(1), second)
 }
 
-/// Whether rows of two records are read.
+/// Whether a row of two records is read, and then others in which one of them is another one.
+fn reads_pairs(last: &mut LastRow, heads: &Heads, one: u64, two: u64) -> Result<bool, Memory>
+    requires { IsReadBy heads.now.now last.old }
+    ensures { IsReadBy heads.now.now last.new }
+{
+    let (one, two) = (Cell::Place(one), Cell::Place(two));
+    last.read(heads, &Cells::of(&[one, two]))?;
+    let are_both = are_records(&last.row, 7, 9);
+    last.read(heads, &Cells::of(&[one, one]))?;
+    let are_first = are_records(&last.row, 7, 7);
+    last.read(heads, &Cells::of(&[two, one]))?;
+    Ok(are_both && are_first && are_records(&last.row, 9, 7))
+}
+
+/// Whether two numbers are read, then two others, and then one more behind them.
+fn reads_numbers(last: &mut LastRow, heads: &Heads) -> Result<bool, Memory>
+    requires { IsReadBy heads.now.now last.old }
+    ensures { IsReadBy heads.now.now last.new }
+{
+    last.read(heads, &Cells::of(&[Cell::Num(4), Cell::Num(-1)]))?;
+    let are_first = are_numbers(&last.row, 4, -1);
+    let others = Cells::of(&[Cell::Num(7), Cell::Num(0)]);
+    last.read(heads, &others)?;
+    let are_others = are_numbers(&last.row, 7, 0);
+    last.read(heads, &others.with(Cell::Num(5)))?;
+    let are_three = last.row.len() == 3 && matches!(last.row.part(2), Some(Part::Num(5)));
+    Ok(are_first && are_others && are_three)
+}
+
+/// Whether rows are read one after the other, and pairs again after numbers and once all is forgotten.
+fn reads_on(alloc: Global, heads: &Heads, one: u64, two: u64) -> Result<bool, Memory> {
+    let mut last = LastRow::new(alloc);
+    let pairs = reads_pairs(&mut last, heads, one, two)?;
+    let numbers = reads_numbers(&mut last, heads)?;
+    let again = reads_pairs(&mut last, heads, one, two)?;
+    last.forget();
+    Ok(pairs && numbers && again && reads_pairs(&mut last, heads, one, two)?)
+}
+
+/// Whether rows of two records are read, and of numbers.
 fn reads_rows(alloc: Global, heads: &mut Heads) -> Result<bool, Memory> {
     let one = heads.add(record(alloc, 7))?;
     let two = heads.add(record(alloc, 9))?;
     let three = reads_three(heads, one, two)?;
     let lone = reads_one(heads, one)?;
-    let numbers = reads_numbers(alloc, heads, one)?;
-    Ok(three && lone && numbers)
+    let on = reads_on(alloc, heads, one, two)?;
+    Ok(three && lone && on)
 }
 
 #[test]

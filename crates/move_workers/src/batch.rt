@@ -9,7 +9,7 @@ ghost use Rattle.move_workers.specs.Jobs.{AreBelow, IsGathered, IsIdle, IsReady,
 ghost use Rattle.move_workers.specs.Judging.{WorkerView, found_in};
 ghost use Rattle.move_workers.specs.Teams.{AreAll, leader};
 
-use crate::job::{Job, Verdict, work};
+use crate::job::{Job, Verdict, judge_at, work};
 use crate::kit::Kit;
 use crate::worker::Worker;
 use claim_board::{Board, Pass};
@@ -18,9 +18,9 @@ use plan_moves::MoveMaker;
 use plan_ports::Gate;
 use plan_rules::{Book, Judges, Kept, KeyBody, Rules, TestBody, WeighBody};
 use plan_search::Found;
+use side_by_side::each_beside;
 use std::alloc::Global;
 use std::marker::PhantomData;
-use std::thread;
 use std::thread::Threads;
 
 /// As many empty slots.
@@ -112,7 +112,6 @@ fn run_each<T: Threads + Sync, B: Book, G: Gate + Sync>(
     jobs: &mut [Job<Worker<B>>],
     bodies: Bodies,
 )
-    requires some { 0 < length jobs.old }
     requires tests { All (λ test. TestAnswers (TestBody.post test.body) (B.meaning.test_of test.number))
         batch.now.kit.now.rules.now.tests }
     requires keys { All (λ key. KeyAnswers (KeyBody.post key.body) (B.meaning.key_of key.number))
@@ -128,11 +127,9 @@ fn run_each<T: Threads + Sync, B: Book, G: Gate + Sync>(
         (i : ℕ) (d : Job WorkerView) → i < length jobs.old → let worker = (slice_index_or jobs.old i d).worker in
         IsWorked batch.now.board.now worker (found_from (found worker) batch.now.first) (slice_index_or jobs.new i d) }
 {
-    let threads = jobs.len();
-    thread::for_each_mut(
+    each_beside(
         rt,
         jobs,
-        threads,
         &|_place: usize, job: &mut Job<Worker<B>>|
             requires tests { All (λ test. TestAnswers (TestBody.post test.body) (B.meaning.test_of test.number))
                 batch.now.kit.now.rules.now.tests }
@@ -159,7 +156,6 @@ fn run_jobs<T: Threads + Sync, B: Book, G: Gate + Sync>(
     batch: &Batch<'_, '_, B, G>,
     jobs: &mut Vec<Job<Worker<B>>>,
 )
-    requires some { 0 < length jobs.old.items }
     requires keeps { ⟦<Rules<B> as Kept>⟧.keeps batch.now.kit.now.rules.now }
     requires ready { let rules = batch.now.kit.now.rules.now in
         All (IsReady batch.now.board.now rules.defs rules.caps batch.now.kit.now.seed) jobs.old.items }
@@ -306,8 +302,66 @@ fn judged_at_once<T: Threads + Sync, B: Book, G: Gate + Sync>(
     Ok(slots)
 }
 
+/// What a worker finds of so many candidates from the first number on, in order, in the thread that calls. It stays as it was.
+fn judged_in_turn<B: Book, G: Gate>(
+    alloc: Global,
+    kit: &Kit<'_, B>,
+    gate: &G,
+    worker: &mut Worker<B>,
+    step: u32,
+    first: u32,
+    count: u32,
+) -> Result<Vec<Option<Found>>, Memory>
+    requires judges { let seen = worker.old.director in
+        ⟦<Rules<B> as Judges>⟧.judges kit.now.rules.now seen.weights (sizes_of seen.plan) }
+    requires own { kit.now.rules.now.defs ≡ worker.old.director.rules }
+    requires seed { kit.now.seed ≡ worker.old.seed }
+    requires step { 1 ≤ step }
+    requires fits { first + count < 2 ^ 32 }
+    ensures found { let makes = map (λ maker. made maker) kit.now.makers.now in
+        let found = found_in B.meaning kit.now.seed kit.now.selectors.now makes step worker.old in
+        IfOk result (λ all. all.items ≡ map found (range_with_len first count)) }
+    ensures same { worker.new ≡ worker.old }
+{
+    let mut all = Vec::with_capacity(alloc, count as usize)?;
+    'numbers: for n in 0..count {
+        let found = judge_at(worker, kit, gate, step, first + n)?;
+        all.push(found)?;
+    }
+    Ok(all)
+}
+
+/// What is found of so many candidates from the first number on, in order, by the first worker, in the thread that calls. No
+/// thread is started and no board is made. The workers stay as they were.
+fn judged_alone<B: Book, G: Gate>(
+    alloc: Global,
+    kit: &Kit<'_, B>,
+    gate: &G,
+    workers: &mut Vec<Worker<B>>,
+    step: u32,
+    first: u32,
+    count: u32,
+) -> Result<Vec<Option<Found>>, Memory>
+    requires some { 1 ≤ vec_len workers.old }
+    requires alike { AreAll (leader workers.old.items) workers.old.items }
+    requires judges { let seen = (leader workers.old.items).director in
+        ⟦<Rules<B> as Judges>⟧.judges kit.now.rules.now seen.weights (sizes_of seen.plan) }
+    requires own { kit.now.rules.now.defs ≡ (leader workers.old.items).director.rules }
+    requires seed { kit.now.seed ≡ (leader workers.old.items).seed }
+    requires step { 1 ≤ step }
+    requires fits { first + count < 2 ^ 32 }
+    ensures found { let makes = map (λ maker. made maker) kit.now.makers.now in
+        let found = found_in B.meaning kit.now.seed kit.now.selectors.now makes step (leader workers.old.items) in
+        IfOk result (λ all. all.items ≡ map found (range_with_len first count)) }
+    ensures len { vec_len workers.new ≡ vec_len workers.old }
+    ensures alike { AreAll (leader workers.old.items) workers.new.items }
+{
+    judged_in_turn(alloc, kit, gate, &mut workers[0], step, first, count)
+}
+
 /// What is found of so many candidates from the first number on, in order, by as many workers as there are candidates for. The
-/// workers stay as they were. Where one worker is enough no thread is started, and it judges in the thread that calls.
+/// workers stay as they were. Where one worker is enough, it judges all of them in turn in the thread that calls: no thread is
+/// started and no board is made.
 pub fn judged_by<T: Threads + Sync, B: Book, G: Gate + Sync>(
     rt: &T,
     alloc: Global,
@@ -333,5 +387,8 @@ pub fn judged_by<T: Threads + Sync, B: Book, G: Gate + Sync>(
     ensures alike { AreAll (leader workers.old.items) workers.new.items }
 {
     let hands = count.min(workers.len() as u32).max(1);
+    if hands == 1 {
+        return judged_alone(alloc, kit, gate, workers, step, first, count);
+    }
     judged_at_once(rt, alloc, kit, gate, workers, hands, step, first, count)
 }

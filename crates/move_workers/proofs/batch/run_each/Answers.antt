@@ -23,8 +23,8 @@ use Rattle.move_workers.proofs.batch.run_each.Goals as goal
 abbrev box : (T : RattleType) → Ghosts T.Denot → RattleType
 box T g = DynBox.the_row T Global.the_row g Heap.ghosts
 
-pub for_each_mut-requires-sync-F : goal.for_each_mut-requires-sync-F
-for_each_mut-requires-sync-F g c κs within =
+pub each_beside-requires-sync-F : goal.each_beside-requires-sync-F
+each_beside-requires-sync-F g c κs within =
     let V1 = Vt (D1.slots g.row.T g.row.B g.row.G) g.dyn-1.0 in
     let V2 = Vt (D2.slots g.row.T g.row.B g.row.G) g.dyn-2.0 in
     let V3 = Vt (D3.slots g.row.T g.row.B g.row.G) g.dyn-3.0 in

@@ -13,5 +13,6 @@ pub mod Noting
 pub mod Runs
 pub mod Seen
 pub mod Starts
+pub mod Takes
 pub mod Tallied
 pub mod Turning

@@ -1,6 +1,6 @@
 -- Lists of rows and of changes, one more at a time.
-use Rattle.std.proofs.Common.{◌≡◌, ◌<◌, ◌+◌, ◌∙◌, ◌||◌, ℕ, ℤ, Bool, true, false, cond, not, List, [], ◌∷◌, ◌++◌, Option, map, filter, drop, get_or, length, take, refl, ap, sym, subst}
-use Rattle.std.specs.List.{filter_map}
+use Rattle.std.proofs.Common.{◌≡◌, ◌<◌, ◌+◌, ◌∙◌, ◌||◌, ℕ, ℤ, Bool, true, false, cond, not, List, [], ◌∷◌, ◌++◌, Option, Some, map, filter, drop, get_or, length, take, refl, ap, sym, subst}
+use Rattle.std.specs.List.{cons_option, filter_map}
 use Rattle.std.proofs.lemmas.List.{append-nil, map-append, take-append-drop, take_more}
 use Rattle.std.proofs.lemmas.List.Elements.{filter-append, filter_map-append}
 use Rattle.std.proofs.lemmas.List.Folds.{list_any-append}
@@ -43,6 +43,17 @@ pub staying_more : (width : ℕ) (run : List Change) (at : ℕ → Option Member
 staying_more width run at places i within =
     ap (numbers_staying width run) (place_more at places i within)
     ∙ numbers_staying-append width run (filter_map at (take i places)) (filter_map at (get_or places i 0 ∷ []))
+
+-- the number of a row that was found
+pub one_there : (width : ℕ) (found : Option Member) (member : Member) (number : ℤ) → Some member ≡ found → number ≡ number_in width member → number ∷ [] ≡ map (number_in width) (cons_option found [])
+one_there width found member number is same = ap (λ (n : ℤ). n ∷ []) same ∙ ap (λ (m : Option Member). map (number_in width) (cons_option m [])) is
+
+-- the number of a row that was found and stays
+pub one_stays : (width : ℕ) (run : List Change) (found : Option Member) (member : Member) (number : ℤ) → is_one_of (gone_in run) member ≡ false → Some member ≡ found → number ≡ number_in width member → number ∷ [] ≡ numbers_staying width run (cons_option found [])
+one_stays width run found member number stays is same =
+    ap (λ (n : ℤ). n ∷ []) same
+    ∙ sym (ap (λ (b : Bool). map (number_in width) (cond (not b) (member ∷ []) [])) stays)
+    ∙ ap (λ (m : Option Member). numbers_staying width run (cons_option m [])) is
 
 none_more : (b c : Bool) → b ≡ false → c ≡ false → (b || c) ≡ false
 none_more b c one other = (λ i. one i || c) ∙ other

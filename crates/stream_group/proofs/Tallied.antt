@@ -1,5 +1,5 @@
 -- What tallies stand for, one number after the other and in any order.
-use Rattle.std.proofs.Common.{◌≡◌, ◌∙◌, ℤ, Bool, List, [], ◌∷◌, ◌++◌, Option, Some, ap, sym, subst, append_assoc, arith}
+use Rattle.std.proofs.Common.{◌≡◌, ◌∙◌, ℤ, Bool, true, false, List, [], ◌∷◌, ◌++◌, Option, Some, ap, sym, subst, append_assoc, true≢false, arith}
 use Rattle.std.specs.Prelude.{All}
 use Rattle.std.proofs.lemmas.List.{length-append}
 use Rattle.std.proofs.lemmas.List.Elements.{All-cons, All-head, All-nil, All-tail}
@@ -8,7 +8,7 @@ use Rattle.plan_rules.specs.Bags.{AreSame}
 use Rattle.plan_rules.specs.Meaning.{IsKeyNumber}
 use Rattle.plan_rules.proofs.Sums.{same-sym}
 use Rattle.stream_group.specs.declared.tally.Tally.{Tally}
-use Rattle.stream_group.specs.Collected.{AreFewKeys, counts_different, made_if_any, with_more}
+use Rattle.stream_group.specs.Collected.{AreFewKeys, Makes, MakesMore, counts_different, made_if_any, with_more}
 use Rattle.stream_group.specs.Tally.{SeesMore, Tallies, TalliesMore}
 use Rattle.stream_group.proofs.Collecting.{few-same, made-more, made_if_any-same}
 use Rattle.stream_group.proofs.Seen.{knows-same}
@@ -33,6 +33,23 @@ tallied old new numbers number is_new collect made sees was = record {
       ∙ made-more old.collect numbers number is_new few (λ different. sees.count (ap counts_different collect ∙ different))
       ∙ ap (λ c. made_if_any c (numbers ++ number ∷ [])) (sym collect);
   sees = sees.sees;
+}
+
+-- one number more, where each counts
+pub each_more : (collect : Collect) (made : Option ℤ) (number : ℤ) → counts_different collect ≡ false → MakesMore collect made (Some (with_more collect made number true)) (number ∷ [])
+each_more collect made number each = λ numbers was few.
+    ap (λ (m : Option ℤ). Some (with_more collect m number true)) (was (few_front numbers (number ∷ []) few))
+    ∙ made-more collect numbers number true few (λ different. absurd (true≢false (sym different ∙ each)))
+
+-- more numbers and more again, of which it is known what is made
+pub makes_on : (collect : Collect) (one two three : Option ℤ) (xs ys : List ℤ) → MakesMore collect one two xs → MakesMore collect two three ys → MakesMore collect one three (xs ++ ys)
+makes_on collect one two three xs ys first second = λ numbers was. subst (Makes collect three) (append_assoc numbers xs ys) (second (numbers ++ xs) (first numbers was))
+
+-- more numbers, of which it is known what is made, where each counts
+pub tallied_each : (old new : Tally) (more : List ℤ) → new.collect ≡ old.collect → counts_different old.collect ≡ false → MakesMore old.collect old.made new.made more → TalliesMore old new more
+tallied_each old new more collect each makes = λ numbers was. record {
+  made = λ few. makes numbers was.made few ∙ ap (λ c. made_if_any c (numbers ++ more)) (sym collect);
+  sees = λ different. absurd (true≢false (sym different ∙ ap counts_different collect ∙ each));
 }
 
 -- more numbers and more again

@@ -1,5 +1,5 @@
 -- What a collector makes of numbers.
-use Rattle.std.specs.Prelude.{◌≤◌, ℤ, pos, ◌+ℤ◌, All, Bool, true, false, List, [], ◌∷◌, Option, Some, None, fold, length, if◌then◌else◌}
+use Rattle.std.specs.Prelude.{◌≡◌, ◌≤◌, ◌++◌, ℤ, pos, ◌+ℤ◌, All, Bool, true, false, List, [], ◌∷◌, Option, Some, None, fold, length, if◌then◌else◌}
 use Rattle.std.specs.Int.{int_min, int_max, saturate_signed, w64}
 use Rattle.std.specs.Ordering.{int_eq}
 use Rattle.std.specs.Set.{distinct_count}
@@ -51,6 +51,11 @@ more_made (collect.Sum key) made number is_new = added made number
 more_made (collect.Min key) made number is_new = int_min made number
 more_made (collect.Max key) made number is_new = int_max made number
 
+-- how many different numbers there are with one more
+abbrev pub different_more : Option ℤ → Bool → ℤ
+different_more None is_new = pos 1
+different_more (Some made) is_new = if is_new then added made (pos 1) else made
+
 -- what a collector makes of one number
 abbrev pub first_made : Collect → ℤ → ℤ
 first_made collect.Count number = pos 1
@@ -68,3 +73,11 @@ with_more collect (Some made) number is_new = more_made collect made number is_n
 pub record AreFewKeys (numbers : List ℤ) : Type 0 where
   pub keys : All IsKeyNumber numbers
   pub few : length numbers ≤ row_limit
+
+-- where these numbers are few keys', this was made of them
+abbrev pub Makes : Collect → Option ℤ → List ℤ → Type 0
+Makes collect made numbers = AreFewKeys numbers → made ≡ made_if_any collect numbers
+
+-- where the one was made of some numbers, the other was made of those and of these besides
+abbrev pub MakesMore : Collect → Option ℤ → Option ℤ → List ℤ → Type 0
+MakesMore collect old new more = (numbers : List ℤ) → Makes collect old numbers → Makes collect new (numbers ++ more)

@@ -9,3 +9,4 @@ pub mod Noted
 pub mod Tally
 pub mod Turns
 pub mod Whole
+pub mod Words

@@ -7,9 +7,11 @@ mod count;
 mod group;
 mod grouping;
 mod laws;
+mod made;
 mod noted;
 mod tally;
 mod turn;
+mod words;
 
 pub use ahead::GroupAhead;
 pub use group::GroupNode;

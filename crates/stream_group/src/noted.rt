@@ -20,7 +20,7 @@ pub struct Noted {
 }
 
 /// Whether the number is from 0 to 63.
-fn is_small(number: i64) -> bool
+pub fn is_small(number: i64) -> bool
     ensures { result ≡ is_small number }
 {
     0 <= number && number < 64

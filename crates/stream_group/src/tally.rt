@@ -1,9 +1,11 @@
 //! What a collector makes of numbers that come one after the other.
 ghost use Rattle.std.specs.Prelude.{◌≡◌, ◌++◌, ◌∷◌, [], List, ℤ, IfOk, OnOk};
-ghost use Rattle.stream_group.specs.Collected.{with_more};
+ghost use Rattle.stream_group.specs.Collected.{counts_different, with_more};
 ghost use Rattle.stream_group.specs.Tally.{Sees, SeesMore, Tallies, TalliesMore};
+ghost use Rattle.stream_group.specs.Words.{with_word};
 
 use crate::noted::Noted;
+use crate::words::Word;
 use plan_facts::Memory;
 use plan_rules::Collect;
 use std::alloc::Global;
@@ -18,7 +20,7 @@ pub struct Tally {
 }
 
 /// What a collector makes of one number more, from what it made of those before.
-fn with_more(collect: Collect, made: Option<i64>, number: i64, is_new: bool) -> i64
+pub fn with_more(collect: Collect, made: Option<i64>, number: i64, is_new: bool) -> i64
     ensures { result ≡ with_more collect made number is_new }
 {
     match (collect, made) {
@@ -54,6 +56,34 @@ impl Tally {
         self.collect = collect;
         self.made = None;
         self.noted.clear();
+    }
+
+    /// Its numbers from 0 to 63 and what was made, as a word.
+    pub fn word(&self) -> Word
+        ensures { with_word self.now result ≡ self.now }
+    {
+        Word {
+            bits: self.noted.small,
+            made: self.made,
+        }
+    }
+
+    /// Takes what a word says in place of its own.
+    pub fn set_word(&mut self, word: Word)
+        ensures { self.new ≡ with_word self.old word }
+    {
+        self.made = word.made;
+        self.noted.small = word.bits;
+    }
+
+    /// Whether only different numbers count.
+    pub fn counts_different(&self) -> bool
+        ensures { result ≡ counts_different self.now.collect }
+    {
+        match self.collect {
+            Collect::CountDistinct(_) => true,
+            Collect::Count | Collect::Sum(_) | Collect::Min(_) | Collect::Max(_) => false,
+        }
     }
 
     /// Takes note of a number where only different ones count, and answers whether it is new then.

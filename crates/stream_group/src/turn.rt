@@ -1,8 +1,9 @@
 //! What the changed rows of each key make of its group.
-ghost use Rattle.std.specs.Prelude.{◌≡◌, ◌≤◌, ◌++◌, ◌∷◌, [], OnOk, IsSortedBy, length, map, take};
+ghost use Rattle.std.specs.Prelude.{◌≡◌, ◌≤◌, ◌++◌, ◌∷◌, [], OnOk, true, IsSortedBy, length, map, take};
 ghost use Rattle.std.specs.FinMap as map;
 ghost use Rattle.std.specs.List.{filter_map};
 ghost use Rattle.stream_heads.specs.Sides.{members_of};
+ghost use Rattle.stream_group.specs.Collected.{counts_different};
 ghost use Rattle.stream_group.specs.Keyed.{IsRun, changed, is_before, number_in, numbers_coming, numbers_staying};
 ghost use Rattle.stream_group.specs.Tally.{TalliesMore};
 ghost use Rattle.stream_group.specs.Turns.{MakesLater, MakesUnder, TurnsAll, TurnsKey, group_cells, rows_of_key, unless_same};
@@ -10,7 +11,9 @@ ghost use Rattle.stream_group.specs.Turns.{MakesLater, MakesUnder, TurnsAll, Tur
 use crate::change::{Change, first, goes, number_after, run_len};
 use crate::count::count_run;
 use crate::grouping::Grouping;
+use crate::made::add_places;
 use crate::tally::Tally;
+use crate::words::{Words, note_places};
 use plan_facts::Memory;
 use plan_rules::Collect;
 use stream_heads::{Cell, Cells, CellsDelta, Member, Side};
@@ -110,6 +113,60 @@ fn tally_places(
     Ok(())
 }
 
+/// The same, where different numbers count. As long as these are from 0 to 63, words of them are kept in hand.
+fn tally_different(
+    members: &Side,
+    places: &[u64],
+    run: &[Change],
+    width: usize,
+    before: &mut Tally,
+    after: &mut Tally,
+) -> Result<(), Memory>
+    requires same { after.old.collect ≡ before.old.collect }
+    requires different { counts_different before.old.collect ≡ true }
+    ensures before { let there = filter_map (map.get members.now.rows.now) places.now in
+        OnOk result (TalliesMore before.old before.new (map (number_in width) there)) }
+    ensures after { let there = filter_map (map.get members.now.rows.now) places.now in
+        OnOk result (TalliesMore after.old after.new (numbers_staying width run.now there)) }
+    ensures collect_before { before.new.collect ≡ before.old.collect }
+    ensures collect_after { after.new.collect ≡ after.old.collect }
+{
+    let words = Words {
+        before: before.word(),
+        after: after.word(),
+    };
+    let Some(words) = note_places(members, places, run, width, words) else {
+        return tally_places(members, places, run, width, before, after);
+    };
+    before.set_word(words.before);
+    after.set_word(words.after);
+    Ok(())
+}
+
+/// The same, where both tallies have one collector. What is made of rows of which each counts is kept in hand.
+fn tally_there(
+    members: &Side,
+    places: &[u64],
+    run: &[Change],
+    width: usize,
+    before: &mut Tally,
+    after: &mut Tally,
+) -> Result<(), Memory>
+    requires { after.old.collect ≡ before.old.collect }
+    ensures before { let there = filter_map (map.get members.now.rows.now) places.now in
+        OnOk result (TalliesMore before.old before.new (map (number_in width) there)) }
+    ensures after { let there = filter_map (map.get members.now.rows.now) places.now in
+        OnOk result (TalliesMore after.old after.new (numbers_staying width run.now there)) }
+    ensures collect_before { before.new.collect ≡ before.old.collect }
+    ensures collect_after { after.new.collect ≡ after.old.collect }
+{
+    if before.counts_different() {
+        return tally_different(members, places, run, width, before, after);
+    }
+    add_places(members, places, run, width, before, after);
+    Ok(())
+}
+
 /// Takes the collected number of a row that comes.
 fn tally_change(change: &Change, width: usize, tally: &mut Tally) -> Result<(), Memory>
     ensures tallies { OnOk result (TalliesMore tally.old tally.new (numbers_coming width (change.now ∷ []))) }
@@ -151,7 +208,7 @@ fn visit_run(
     let width = by.keys.len();
     before.restart(by.collect);
     after.restart(by.collect);
-    tally_places(members, members.under(key), run, width, before, after)?;
+    tally_there(members, members.under(key), run, width, before, after)?;
     tally_come(run, width, after)?;
     Ok(())
 }

@@ -21,10 +21,10 @@ returns-clause-before c =
     let same : AreSame there (under width key kept) =
     subst (λ (w : ℕ). AreSame there (under w (take w c.args.key.now) kept)) c.requires.width c.under.ensures.rows in
     let one = c.restart.new.self in
-    let two = c.tally_places.new.before in
-    let taken = subst (λ (w : ℕ). TalliesMore one two (map (number_in w) there)) c.len-width.ensures c.in_ok-tally_places.ensures.before in
+    let two = c.tally_there.new.before in
+    let taken = subst (λ (w : ℕ). TalliesMore one two (map (number_in w) there)) c.len-width.ensures c.in_ok-tally_there.ensures.before in
     made_anew one two by.collect (map (number_in width) there) (numbers_under width kept key) c.restart.ensures.tallies
-    (c.tally_places.ensures.collect_before ∙ c.restart.ensures.collect) taken (same-map (number_in width) there (under width key kept) same)
+    (c.tally_there.ensures.collect_before ∙ c.restart.ensures.collect) taken (same-map (number_in width) there (under width key kept) same)
 
 pub returns-clause-after : goal.returns-clause-after
 returns-clause-after c =
@@ -37,10 +37,10 @@ returns-clause-after c =
     let same : AreSame there (under width key kept) =
     subst (λ (w : ℕ). AreSame there (under w (take w c.args.key.now) kept)) c.requires.width c.under.ensures.rows in
     let one = c.restart-2.new.self in
-    let two = c.tally_places.new.after in
+    let two = c.tally_there.new.after in
     let three = c.tally_come.new.tally in
     let w = c.len-width.result in
-    let both = tallies_on one two three (numbers_staying w run there) (numbers_coming w run) c.in_ok-tally_places.ensures.after c.in_ok-tally_come.ensures.tallies in
+    let both = tallies_on one two three (numbers_staying w run there) (numbers_coming w run) c.in_ok-tally_there.ensures.after c.in_ok-tally_come.ensures.tallies in
     let taken = subst (λ (w : ℕ). TalliesMore one three (numbers_staying w run there ++ numbers_coming w run)) c.len-width.ensures both in
     made_anew one three by.collect _ _ c.restart-2.ensures.tallies
-    (c.tally_come.ensures.collect ∙ c.tally_places.ensures.collect_after ∙ c.restart-2.ensures.collect) taken (numbers_later width key run there kept same c.requires.run)
+    (c.tally_come.ensures.collect ∙ c.tally_there.ensures.collect_after ∙ c.restart-2.ensures.collect) taken (numbers_later width key run there kept same c.requires.run)

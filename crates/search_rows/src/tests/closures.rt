@@ -11,7 +11,6 @@ use plan_rules::{
     Book, Harder, Kept, Key, KeyBody, Row, RuleDef, Rules, Test, TestBody, Weigh, WeighBody,
 };
 use std::alloc::Global;
-use std::process::Abort;
 use std::test::Fail;
 
 /// What closures answer by ids.
@@ -165,16 +164,21 @@ pub(super) enum Trial {
     Placing,
 }
 
-/// Tries it with these closures.
-fn try_with(rt: &impl Abort, alloc: Global, trial: Trial, closures: Closures) -> Result<(), Fail> {
+/// What goes wrong when it is tried with these closures.
+fn wrong_with(
+    alloc: Global,
+    trial: Trial,
+    closures: Closures,
+) -> Result<Option<&'static str>, Fail> {
     match trial {
-        Trial::Worth => recalc::expect_worked(rt, alloc, closures),
-        Trial::Placing => placing::expect_worked(rt, alloc, closures),
+        Trial::Worth => recalc::wrong_worth(alloc, closures),
+        Trial::Placing => placing::wrong_placing(alloc, closures),
     }
 }
 
-/// Makes the closures and tries it with them: a function that makes a boxed closure can't hand it out.
-pub(super) fn with_closures(rt: &impl Abort, alloc: Global, trial: Trial) -> Result<(), Fail> {
+/// Makes the closures, tries it with them, and gives what goes wrong: a function that makes a boxed closure can't hand
+/// it out.
+pub(super) fn with_closures(alloc: Global, trial: Trial) -> Result<Option<&'static str>, Fail> {
     let mut tests = Vec::new(alloc);
     'tests: for number in [PAST, SHARED, ROOMLESS, PAST_IDS] {
         let body: TestBody = Box::new(alloc, move |row: &Row| -> bool {
@@ -194,5 +198,5 @@ pub(super) fn with_closures(rt: &impl Abort, alloc: Global, trial: Trial) -> Res
         keys,
         weigher,
     };
-    try_with(rt, alloc, trial, closures)
+    wrong_with(alloc, trial, closures)
 }

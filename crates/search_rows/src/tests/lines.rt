@@ -19,7 +19,6 @@ use plan_rules::{Book, Judges, Kept, RuleDef, Rules, Steps};
 use score_director::Director;
 use std::alloc::Global;
 use std::marker::Brand;
-use std::process::Abort;
 use std::sync::ledger::{Blank, Ledger};
 use std::test::Fail;
 use test_plans::schema_of;
@@ -44,8 +43,8 @@ impl Book for Zeros {
 /// The rules' definitions: each placed lesson is a match of each.
 fn defs(alloc: Global) -> Result<List<RuleDef>, Memory> {
     let mut defs = List::new(alloc);
-    for name in RULES {
-        defs.push(rule_of(alloc, name, &PENALTY, &LESSONS, &[])?)?;
+    for name in &RULES {
+        defs.push(rule_of(alloc, name, &PENALTY, &LESSONS, &None)?)?;
     }
     Ok(defs)
 }
@@ -75,10 +74,12 @@ fn rules(alloc: Global) -> Result<Rules<Zeros>, Fail>
 }
 
 /// The names of a course.
-fn names(rt: &impl Abort, alloc: Global, course: &Course) -> Result<Names, Fail> {
+fn names(alloc: Global, course: &Course) -> Result<Names, Fail> {
     let mut names = Names::new(alloc);
     for text in course.names {
-        assert!(rt; names.count() < MOST_NAMES);
+        if MOST_NAMES <= names.count() {
+            return Err("too many names".into());
+        }
         let _number = names.number(text.as_bytes())?;
     }
     Ok(names)
@@ -112,39 +113,27 @@ fn posts(alloc: Global, bytes: Vec<u8>) -> Result<Vec<Post>, FeedFault>
     read_feed(alloc, &mut source)
 }
 
-/// The text of a line is that which is wanted.
-fn expect_line(
-    rt: &impl Abort,
-    alloc: Global,
-    rules: &Rules<Zeros>,
-    line: &Line,
-    wanted: &str,
-) -> Result<(), Memory> {
+/// Whether the text of a line is that which is wanted.
+fn is_text(alloc: Global, rules: &Rules<Zeros>, line: &Line, wanted: &str) -> Result<bool, Memory> {
     let mut text = Vec::new(alloc);
     write_line(&rules.schema, rules.defs.as_slice(), line, &mut text)?;
-    let wanted = Vec::from_slice(alloc, wanted.as_bytes())?;
     text.pop();
-    assert_eq!(rt; text, wanted);
-    Ok(())
+    Ok(text.as_slice() == wanted.as_bytes())
 }
 
-/// After the lines of a course there are as many facts of each class, and as many names, as are wanted.
-fn expect_after(
-    rt: &impl Abort,
+/// Whether after the lines of a course there are as many facts of each class, and as many names, as are wanted.
+fn ends(
     alloc: Global,
     director: &Director<Zeros>,
     names: &Names,
     course: &Course,
-) -> Result<(), Memory> {
+) -> Result<bool, Memory> {
     let sizes = sizes(alloc, director.plan())?;
-    assert_eq!(rt; sizes.as_slice(), course.sizes);
-    assert_eq!(rt; names.count(), course.names_after);
-    Ok(())
+    Ok(sizes.as_slice() == course.sizes.as_slice() && names.count() == course.names_after)
 }
 
-/// A director takes a line at its boundary, of which is printed what is wanted.
+/// A director takes a line at its boundary; whether of it is printed what is wanted.
 fn take_turn<L: Ledger>(
-    rt: &impl Abort,
     alloc: Global,
     director: &mut Director<Zeros>,
     rules: &Rules<Zeros>,
@@ -152,7 +141,7 @@ fn take_turn<L: Ledger>(
     post: &Post,
     turn: Turn,
     steps: &mut Steps<L>,
-) -> Result<(), Memory>
+) -> Result<bool, Memory>
     requires judges { ⟦<Rules<Zeros> as Judges>⟧.judges rules.now director.old.weights (sizes_of director.old.plan) }
     requires own { rules.now.defs ≡ director.old.rules }
     requires rest { director.old.base ≡ None }
@@ -162,15 +151,18 @@ fn take_turn<L: Ledger>(
     ensures rest { director.new.base ≡ None }
     ensures schema { IsOfSchema rules.now.schema director.new.plan }
 {
-    assert!(rt; names.count() <= MOST_NAMES);
-    assert!(rt; !matches!(post.body, Body::Stop(_)));
+    if MOST_NAMES < names.count() {
+        return Ok(false);
+    }
+    if matches!(post.body, Body::Stop(_)) {
+        return Ok(false);
+    }
     let line = take_line(director, rules, &rules.schema, names, post, turn.0, steps)?;
-    expect_line(rt, alloc, rules, &line, turn.2)
+    is_text(alloc, rules, &line, turn.2)
 }
 
-/// A director takes the lines of a course one by one, each at its boundary.
+/// A director takes the lines of a course one by one, each at its boundary; whether each is printed as is wanted.
 fn take_turns<L: Ledger>(
-    rt: &impl Abort,
     alloc: Global,
     director: &mut Director<Zeros>,
     rules: &Rules<Zeros>,
@@ -178,64 +170,70 @@ fn take_turns<L: Ledger>(
     posts: &[Post],
     turns: &[Turn],
     steps: &mut Steps<L>,
-) -> Result<(), Memory>
+) -> Result<bool, Memory>
     requires judges { ⟦<Rules<Zeros> as Judges>⟧.judges rules.now director.old.weights (sizes_of director.old.plan) }
     requires own { rules.now.defs ≡ director.old.rules }
     requires rest { director.old.base ≡ None }
     requires schema { IsOfSchema rules.now.schema director.old.plan }
 {
-    assert_eq!(rt; posts.len(), turns.len());
     for (post, turn) in posts.iter().zip(turns) {
-        take_turn(rt, alloc, director, rules, names, post, *turn, steps)?;
+        if !take_turn(alloc, director, rules, names, post, *turn, steps)? {
+            return Ok(false);
+        }
     }
-    Ok(())
+    Ok(posts.len() == turns.len())
 }
 
-/// The lines are those that are wanted, one for each turn.
-fn expect_lines(
-    rt: &impl Abort,
+/// Whether the lines are those that are wanted, one for each turn.
+fn are_texts(
     alloc: Global,
     rules: &Rules<Zeros>,
     lines: &[Line],
     turns: &[Turn],
-) -> Result<(), Memory> {
-    assert_eq!(rt; lines.len(), turns.len());
+) -> Result<bool, Memory> {
     for (line, turn) in lines.iter().zip(turns) {
-        expect_line(rt, alloc, rules, line, turn.2)?;
+        if !is_text(alloc, rules, line, turn.2)? {
+            return Ok(false);
+        }
     }
-    Ok(())
+    Ok(lines.len() == turns.len())
 }
 
-/// A director takes the lines of a course at once, all at boundary 0.
+/// A director takes the lines of a course at once, all at boundary 0; whether each is printed as is wanted.
 fn take_at_once(
-    rt: &impl Abort,
     alloc: Global,
     director: &mut Director<Zeros>,
     rules: &Rules<Zeros>,
     names: &mut Names,
     posts: &[Post],
     turns: &[Turn],
-) -> Result<(), Memory>
+) -> Result<bool, Memory>
     requires judges { ⟦<Rules<Zeros> as Judges>⟧.judges rules.now director.old.weights (sizes_of director.old.plan) }
     requires own { rules.now.defs ≡ director.old.rules }
     requires rest { director.old.base ≡ None }
     requires schema { IsOfSchema rules.now.schema director.old.plan }
     requires lines { AreLines posts.now }
 {
-    assert!(rt; names.count() <= 1_000);
+    if 1_000 < names.count() {
+        return Ok(false);
+    }
     let mut lines = Vec::new(alloc);
     take_alone(director, rules, &rules.schema, names, posts, 0, &mut lines)?;
-    expect_lines(rt, alloc, rules, &lines, turns)
+    are_texts(alloc, rules, &lines, turns)
 }
 
 /// Whether all lines of a course are taken at boundary 0.
 fn is_at_once(course: &Course) -> bool {
-    course.turns.iter().all(|turn| turn.0 == 0)
+    for turn in course.turns {
+        if turn.0 != 0 {
+            return false;
+        }
+    }
+    true
 }
 
-/// A director takes the lines of a course one by one, or at once, and then stands as is wanted.
+/// A director takes the lines of a course one by one, or at once; whether it then stands as is wanted.
 fn take_course<L: Ledger>(
-    rt: &impl Abort,
     alloc: Global,
     director: &mut Director<Zeros>,
     rules: &Rules<Zeros>,
@@ -243,90 +241,103 @@ fn take_course<L: Ledger>(
     course: &Course,
     at_once: bool,
     steps: &mut Steps<L>,
-) -> Result<(), Fail>
+) -> Result<bool, Fail>
     requires judges { ⟦<Rules<Zeros> as Judges>⟧.judges rules.now director.old.weights (sizes_of director.old.plan) }
     requires own { rules.now.defs ≡ director.old.rules }
     requires rest { director.old.base ≡ None }
     requires schema { IsOfSchema rules.now.schema director.old.plan }
     requires lines { AreLines posts.now }
 {
-    let mut names = names(rt, alloc, course)?;
+    let mut names = names(alloc, course)?;
     let turns = course.turns;
-    if at_once {
-        take_at_once(rt, alloc, director, rules, &mut names, posts, turns)?;
+    let taken = if at_once {
+        take_at_once(alloc, director, rules, &mut names, posts, turns)?
     } else {
-        take_turns(rt, alloc, director, rules, &mut names, posts, turns, steps)?;
-    }
-    expect_after(rt, alloc, director, &names, course)?;
-    Ok(())
+        take_turns(alloc, director, rules, &mut names, posts, turns, steps)?
+    };
+    let ended = ends(alloc, director, &names, course)?;
+    Ok(taken && ended)
 }
 
-/// A director of the plan of a course takes its lines one by one, or at once.
-fn expect_course<L: Ledger>(
-    rt: &impl Abort,
+/// A director of the plan of a course takes these lines one by one, or at once; whether it then stands as is wanted.
+fn take_lines<L: Ledger>(
     alloc: Global,
     rules: &Rules<Zeros>,
+    posts: &[Post],
     course: &Course,
     at_once: bool,
     blank: Blank,
-) -> Result<(), Fail>
+) -> Result<bool, Fail>
     requires name { blank.name ≡ L.name }
     requires parts { blank.parts ≡ L.parts }
     requires some { 0 < L.parts }
     requires keeps { ⟦<Rules<Zeros> as Kept>⟧.keeps rules.now }
+    requires lines { AreLines posts.now }
 {
-    let posts = posts(alloc, feed(alloc, course.turns)?)?;
     let mut steps: Steps<L> = Steps::new(blank);
     let mut director = director_of(alloc, rules, course.facts, &[1, 1], &mut steps)?;
     take_course(
-        rt,
         alloc,
         &mut director,
         rules,
-        &posts,
+        posts,
         course,
         at_once,
         &mut steps,
     )
 }
 
-/// The lines of each course are taken one by one; those that may be are taken at once.
-fn expect_courses(rt: &impl Abort, alloc: Global, at_once: bool) -> Result<(), Fail> {
+/// Whether the lines of a course are taken as is wanted, one by one, or at once.
+fn try_course(
+    alloc: Global,
+    rules: &Rules<Zeros>,
+    course: &Course,
+    at_once: bool,
+) -> Result<bool, Fail>
+    requires keeps { ⟦<Rules<Zeros> as Kept>⟧.keeps rules.now }
+{
+    let posts = posts(alloc, feed(alloc, course.turns)?)?;
+    take_lines::<Brand>(alloc, rules, &posts, course, at_once, Blank::new(1))
+}
+
+/// Whether the lines of each course are taken as is wanted, one by one, or at once those that may be.
+fn try_courses(alloc: Global, at_once: bool) -> Result<bool, Fail> {
     let rules = rules(alloc)?;
     for course in COURSES {
-        if !at_once || is_at_once(course) {
-            expect_course::<Brand>(rt, alloc, &rules, course, at_once, Blank::new(1))?;
+        if at_once && !is_at_once(course) {
+            continue;
+        }
+        if !try_course(alloc, &rules, course, at_once)? {
+            return Ok(false);
         }
     }
-    Ok(())
+    Ok(true)
 }
 
 #[test]
 fn lines_are_taken_one_by_one(rt: HostRuntime) -> Result<(), Fail> {
-    expect_courses(&rt, rt.alloc(), false)
-}
-
-#[test]
-fn lines_are_taken_at_once(rt: HostRuntime) -> Result<(), Fail> {
-    expect_courses(&rt, rt.alloc(), true)
-}
-
-/// A feed of so many empty lines is read, or has too many.
-fn expect_empty(rt: &impl Abort, alloc: Global, lines: usize) -> Result<(), Memory> {
-    let read = posts(alloc, vec![in alloc; b'\n'; lines]?);
-    if lines <= MOST_LINES {
-        assert_eq!(rt; read.map(|posts| posts.len()).ok(), Some(lines));
-    } else {
-        assert_eq!(rt; read.err(), Some(FeedFault::Overrun));
-    }
+    assert!(rt; try_courses(rt.alloc(), false)?);
     Ok(())
 }
 
 #[test]
+fn lines_are_taken_at_once(rt: HostRuntime) -> Result<(), Fail> {
+    assert!(rt; try_courses(rt.alloc(), true)?);
+    Ok(())
+}
+
+/// Whether a feed of so many empty lines is read, or has too many.
+fn is_read(alloc: Global, lines: usize) -> Result<bool, Memory> {
+    match posts(alloc, vec![in alloc; b'\n'; lines]?) {
+        Ok(posts) => Ok(lines <= MOST_LINES && posts.len() == lines),
+        Err(fault) => Ok(MOST_LINES < lines && matches!(fault, FeedFault::Overrun)),
+    }
+}
+
+#[test]
 fn feeds_are_read_up_to_their_most_lines(rt: HostRuntime) -> Result<(), Fail> {
-    let alloc = rt.alloc();
     for lines in [0, 1, MOST_LINES, MOST_LINES + 1] {
-        expect_empty(&rt, alloc, lines)?;
+        assert!(rt; is_read(rt.alloc(), lines)?, "{lines}");
     }
     Ok(())
 }
@@ -337,10 +348,7 @@ fn feeds_hand_a_fault_of_their_source_on(rt: HostRuntime) -> Result<(), Fail> {
     let alloc = rt.alloc();
     let bytes = vec![in alloc; b'\n'; 20]?;
     let mut source = MemSource::new(bytes, 10, vec![in alloc; 1]?);
-    assert_eq!(rt;
-        read_feed(alloc, &mut source).err(),
-        Some(FeedFault::ReadFault)
-    );
-    assert_eq!(rt; source.faults(), 1);
+    let read = read_feed(alloc, &mut source);
+    assert!(rt; matches!(read, Err(FeedFault::ReadFault)) && source.faults() == 1);
     Ok(())
 }

@@ -9,7 +9,6 @@ use plan_search::Found;
 use plan_settings::{AcceptorKind, Settings};
 use search_core::{Core, CoreFault, Event, Reply};
 use std::alloc::Global;
-use std::process::Abort;
 use std::test::Fail;
 
 /// A plan with nothing unplaced that is worth so much at the soft level.
@@ -109,22 +108,30 @@ fn answer(core: &mut Core, event: Event, others: usize) -> Answer
     core.on(event)
 }
 
-/// A core that wasn't told anything answers each event in turn as is expected.
-fn assert_answers(
-    rt: &impl Abort,
-    alloc: Global,
-    core: &mut Core,
-    cases: &[(Told, Answer)],
-) -> Result<(), Fail>
+/// Whether an answer is the expected one.
+fn is_answer(given: Answer, expected: Answer) -> bool {
+    match (given, expected) {
+        (Ok(reply), Ok(other)) => reply == other,
+        (Err(fault), Err(other)) => fault == other,
+        _ => false,
+    }
+}
+
+/// Whether a core that wasn't told anything answers each event in turn as is expected.
+fn answers(alloc: Global, core: &mut Core, cases: &[(Told, Answer)]) -> Result<bool, Memory>
     requires { HasFewPosts core.old 0 }
 {
-    assert!(rt; cases.len() < 1_000);
+    if 1_000 <= cases.len() {
+        return Ok(false);
+    }
     for place in 0..cases.len() {
         let (told, expected) = cases[place];
         let event = event_of(alloc, told)?;
-        assert_eq!(rt; answer(core, event, place), expected);
+        if !is_answer(answer(core, event, place), expected) {
+            return Ok(false);
+        }
     }
-    Ok(())
+    Ok(true)
 }
 
 const ONE_CANDIDATE: [(Told, Answer); 8] = [
@@ -141,7 +148,8 @@ const ONE_CANDIDATE: [(Told, Answer); 8] = [
 #[test]
 fn one_candidate_decides_a_step(rt: HostRuntime) -> Result<(), Fail> {
     let mut core = climber(rt.alloc(), 1, 1, 1, 1)?;
-    assert_answers(&rt, rt.alloc(), &mut core, &ONE_CANDIDATE)
+    assert!(rt; answers(rt.alloc(), &mut core, &ONE_CANDIDATE)?);
+    Ok(())
 }
 
 /// Two workers judge out of order, in two steps.
@@ -181,7 +189,8 @@ const TWO_STEPS: [(Told, Answer); 27] = [
 #[test]
 fn steps_are_decided_batch_by_batch(rt: HostRuntime) -> Result<(), Fail> {
     let mut core = climber(rt.alloc(), 2, 5, 2, 2)?;
-    assert_answers(&rt, rt.alloc(), &mut core, &TWO_STEPS)
+    assert!(rt; answers(rt.alloc(), &mut core, &TWO_STEPS)?);
+    Ok(())
 }
 
 /// A step in which nothing can be made has no winner; a post begins a leg at the last boundary, and no step comes after it.
@@ -201,7 +210,8 @@ const LEGS: [(Told, Answer); 10] = [
 #[test]
 fn legs_begin_where_there_are_posts(rt: HostRuntime) -> Result<(), Fail> {
     let mut core = climber(rt.alloc(), 1, 1, 1, 1)?;
-    assert_answers(&rt, rt.alloc(), &mut core, &LEGS)
+    assert!(rt; answers(rt.alloc(), &mut core, &LEGS)?);
+    Ok(())
 }
 
 const FAULTS: [(Told, Answer); 19] = [
@@ -229,5 +239,6 @@ const FAULTS: [(Told, Answer); 19] = [
 #[test]
 fn each_fault_comes_in_its_order(rt: HostRuntime) -> Result<(), Fail> {
     let mut core = climber(rt.alloc(), 2, 2, 1, 2)?;
-    assert_answers(&rt, rt.alloc(), &mut core, &FAULTS)
+    assert!(rt; answers(rt.alloc(), &mut core, &FAULTS)?);
+    Ok(())
 }

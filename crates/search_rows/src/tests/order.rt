@@ -28,6 +28,14 @@ fn rules_at(alloc: Global, sketches: &[(Level, bool)]) -> Result<List<RuleDef>, 
     Ok(rules)
 }
 
+/// What these rules are worth in all, if they are three: 10 times 3, twice 7 and once 4.
+fn worth(rules: &[RuleDef]) -> Option<Score> {
+    if rules.len() != 3 {
+        return None;
+    }
+    score_of_totals(rules, &[10, 2, 1], &[3, 7, 4])
+}
+
 /// Two penalties at the hard level and a reward at the soft one: 10 times 3 and once 4, and twice 7.
 #[test]
 fn totals_are_weighed_and_added_up_level_by_level(rt: HostRuntime) -> Result<(), Fail> {
@@ -37,24 +45,36 @@ fn totals_are_weighed_and_added_up_level_by_level(rt: HostRuntime) -> Result<(),
         (Level::Hard, false),
     ];
     let rules = rules_at(rt.alloc(), &sketches)?;
-    assert_eq!(rt; rules.len(), 3);
     let wanted = Score {
         hard: -34,
         medium: 0,
         soft: 14,
     };
-    assert_eq!(rt;
-        score_of_totals(rules.as_slice(), &[10, 2, 1], &[3, 7, 4]),
-        Some(wanted)
-    );
+    assert!(rt; worth(rules.as_slice()) == Some(wanted));
     Ok(())
 }
 
-/// Rows as they were kept, by the numbers of their parts.
-const KEPT: &[&[i64]] = &[&[2, 5], &[3], &[2, -7, 9], &[2], &[-1, 4]];
+/// A row of at most 3 parts: how many they are, and their numbers, with 0 for those that it doesn't have.
+#[derive(Clone, Copy, Drop)]
+struct RowSketch(usize, [i64; 3]);
+
+/// Rows as they were kept.
+const KEPT: [RowSketch; 5] = [
+    RowSketch(2, [2, 5, 0]),
+    RowSketch(1, [3, 0, 0]),
+    RowSketch(3, [2, -7, 9]),
+    RowSketch(1, [2, 0, 0]),
+    RowSketch(2, [-1, 4, 0]),
+];
 
 /// The same rows in their order.
-const ORDERED: &[&[i64]] = &[&[-1, 4], &[2], &[2, -7, 9], &[2, 5], &[3]];
+const ORDERED: [RowSketch; 5] = [
+    RowSketch(2, [-1, 4, 0]),
+    RowSketch(1, [2, 0, 0]),
+    RowSketch(3, [2, -7, 9]),
+    RowSketch(2, [2, 5, 0]),
+    RowSketch(1, [3, 0, 0]),
+];
 
 /// A part with this number: a fact where it can be an id.
 fn part_with(alloc: Global, number: i64) -> Part {
@@ -69,22 +89,23 @@ fn part_with(alloc: Global, number: i64) -> Part {
     }
 }
 
-/// A row of at most 4 parts with these numbers.
-fn row_with(alloc: Global, numbers: &[i64]) -> Result<Row, Memory> {
+/// The row of a sketch.
+fn row_of(alloc: Global, sketch: RowSketch) -> Result<Row, Memory> {
+    let RowSketch(parts, numbers) = sketch;
     let mut row = Row::new(alloc);
     for number in numbers {
-        if row.len() < 4 {
-            row.push(part_with(alloc, *number))?;
+        if row.len() < parts && row.len() < 4 {
+            row.push(part_with(alloc, number))?;
         }
     }
     Ok(row)
 }
 
-/// Rows whose parts have these numbers.
-fn rows_with(alloc: Global, sketches: &[&[i64]]) -> Result<List<Row>, Memory> {
+/// The rows of some sketches.
+fn rows_of(alloc: Global, sketches: &[RowSketch]) -> Result<List<Row>, Memory> {
     let mut rows = List::new(alloc);
-    for numbers in sketches {
-        rows.push(row_with(alloc, numbers)?)?;
+    for sketch in sketches {
+        rows.push(row_of(alloc, *sketch)?)?;
     }
     Ok(rows)
 }
@@ -101,8 +122,8 @@ fn are_same(rows: &[Row], others: &[Row]) -> bool {
 
 #[test]
 fn rows_are_put_in_the_order_of_their_numbers(rt: HostRuntime) -> Result<(), Fail> {
-    let mut rows = rows_with(rt.alloc(), KEPT)?;
-    let wanted = rows_with(rt.alloc(), ORDERED)?;
+    let mut rows = rows_of(rt.alloc(), &KEPT)?;
+    let wanted = rows_of(rt.alloc(), &ORDERED)?;
     put_in_order(&mut rows);
     assert!(rt; are_same(rows.as_slice(), wanted.as_slice()));
     Ok(())

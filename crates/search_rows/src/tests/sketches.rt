@@ -4,11 +4,27 @@ use plan_rules::{Collect, Head, Joiner, Node, RuleDef};
 use plan_scores::Level;
 use std::alloc::Global;
 
+/// Joiners, at most two.
+pub(super) enum Joiners {
+    Nothing,
+    One(Joiner),
+    Two(Joiner, Joiner),
+}
+
+/// The list of some joiners.
+fn joiners_of(alloc: Global, sketch: &Joiners) -> Result<List<Joiner>, Memory> {
+    match sketch {
+        Joiners::Nothing => Ok(List::new(alloc)),
+        Joiners::One(joiner) => List::from_slice(alloc, &[*joiner]),
+        Joiners::Two(first, second) => List::from_slice(alloc, &[*first, *second]),
+    }
+}
+
 /// The head of a rule, in short.
 pub(super) enum HeadSketch {
     ForEach(u8),
     ForEachNulls(u8),
-    Pairs(u8, &'static [Joiner]),
+    Pairs(u8, Joiners),
 }
 
 /// The head that a sketch is.
@@ -16,19 +32,25 @@ fn head_of(alloc: Global, sketch: &HeadSketch) -> Result<Head, Memory> {
     Ok(match sketch {
         HeadSketch::ForEach(class) => Head::ForEach(*class),
         HeadSketch::ForEachNulls(class) => Head::ForEachNulls(*class),
-        HeadSketch::Pairs(class, joiners) => {
-            Head::Pairs(*class, List::from_slice(alloc, joiners)?)
-        }
+        HeadSketch::Pairs(class, joiners) => Head::Pairs(*class, joiners_of(alloc, joiners)?),
     })
 }
 
-/// A node of a rule, in short.
+/// A node of a rule, in short; groups are by one or two keys.
 pub(super) enum NodeSketch {
     Filter(u16),
-    Join(u8, bool, &'static [Joiner]),
-    IfExists(u8, bool, &'static [Joiner]),
-    IfNotExists(u8, bool, &'static [Joiner]),
-    GroupBy(&'static [u16], Collect),
+    Join(u8, bool, Joiners),
+    IfExists(u8, bool, Joiners),
+    IfNotExists(u8, bool, Joiners),
+    GroupBy(u16, Option<u16>, Collect),
+}
+
+/// The list of one key or of two.
+fn keys_of(alloc: Global, first: u16, second: Option<u16>) -> Result<List<u16>, Memory> {
+    match second {
+        Some(second) => List::from_slice(alloc, &[first, second]),
+        None => List::from_slice(alloc, &[first]),
+    }
 }
 
 /// The node that a sketch is.
@@ -36,24 +58,24 @@ fn node_of(alloc: Global, sketch: &NodeSketch) -> Result<Node, Memory> {
     Ok(match sketch {
         NodeSketch::Filter(test) => Node::Filter(*test),
         NodeSketch::Join(class, nulls, joiners) => {
-            Node::Join(*class, *nulls, List::from_slice(alloc, joiners)?)
+            Node::Join(*class, *nulls, joiners_of(alloc, joiners)?)
         }
         NodeSketch::IfExists(class, nulls, joiners) => {
-            Node::IfExists(*class, *nulls, List::from_slice(alloc, joiners)?)
+            Node::IfExists(*class, *nulls, joiners_of(alloc, joiners)?)
         }
         NodeSketch::IfNotExists(class, nulls, joiners) => {
-            Node::IfNotExists(*class, *nulls, List::from_slice(alloc, joiners)?)
+            Node::IfNotExists(*class, *nulls, joiners_of(alloc, joiners)?)
         }
-        NodeSketch::GroupBy(keys, collect) => {
-            Node::GroupBy(List::from_slice(alloc, keys)?, *collect)
+        NodeSketch::GroupBy(first, second, collect) => {
+            Node::GroupBy(keys_of(alloc, *first, *second)?, *collect)
         }
     })
 }
 
-/// The nodes that sketches are, in their order.
-fn nodes_of(alloc: Global, sketches: &[NodeSketch]) -> Result<List<Node>, Memory> {
+/// The list of a node, if there is one.
+fn nodes_of(alloc: Global, sketch: &Option<NodeSketch>) -> Result<List<Node>, Memory> {
     let mut nodes = List::new(alloc);
-    for sketch in sketches {
+    if let Some(sketch) = sketch {
         nodes.push(node_of(alloc, sketch)?)?;
     }
     Ok(nodes)
@@ -68,13 +90,13 @@ pub(super) struct Worth {
     pub(super) weigh: Option<u16>,
 }
 
-/// A rule. It would weigh 1 by itself; the weight of its worth is handed in.
+/// A rule of at most one node. It would weigh 1 by itself; the weight of its worth is handed in.
 pub(super) fn rule_of(
     alloc: Global,
     name: &str,
     worth: &Worth,
     head: &HeadSketch,
-    nodes: &[NodeSketch],
+    node: &Option<NodeSketch>,
 ) -> Result<RuleDef, Memory> {
     Ok(RuleDef {
         name: Text::from_slice(alloc, name.as_bytes())?,
@@ -83,6 +105,6 @@ pub(super) fn rule_of(
         weight: 1,
         weigh: worth.weigh,
         head: head_of(alloc, head)?,
-        nodes: nodes_of(alloc, nodes)?,
+        nodes: nodes_of(alloc, node)?,
     })
 }

@@ -44,8 +44,14 @@ impl HoldingGate {
         self.late.load(Ordering::SeqCst) != 0
     }
 
+    /// Whether each number that it awaits was entered.
     fn are_all_in(&self) -> bool {
-        self.awaited.iter().all(|number| self.times(*number) > 0)
+        for number in self.awaited {
+            if self.times(*number) == 0 {
+                return false;
+            }
+        }
+        true
     }
 
     fn hold(&self) {

@@ -9,7 +9,7 @@ use super::gates::HoldingGate;
 use crate::worth;
 use changes::try_turns;
 use move_workers::{Kit, Team, Worker, director_alone};
-use plan_facts::{Kind, List, Memory, Plan, Schema, Text};
+use plan_facts::{Kind, List, Memory, Plan, Raw, Schema, Text};
 use plan_moves::{Edit, Set, Touch};
 use plan_ports::NoGate;
 use plan_rules::{Book, Head, Judges, Kept, RuleDef, Rules};
@@ -18,7 +18,6 @@ use plan_search::Found;
 use plan_settings::Selector;
 use score_director::Director;
 use std::alloc::Global;
-use std::process::Abort;
 use std::test::Fail;
 use std::thread::Threads;
 use test_plans::FactSketch::{Entity, Fact};
@@ -73,7 +72,7 @@ fn rules_of(alloc: Global, schema: &Schema) -> Result<Rules<Silent>, Fail>
         head: Head::ForEach(SHIFT),
         nodes: List::new(alloc),
     })?;
-    let rules = Rules::build(
+    Ok(Rules::build(
         alloc,
         schema,
         defs,
@@ -81,8 +80,7 @@ fn rules_of(alloc: Global, schema: &Schema) -> Result<Rules<Silent>, Fail>
         List::new(alloc),
         List::new(alloc),
         List::new(alloc),
-    )?;
-    Ok(rules)
+    )?)
 }
 
 /// How many live facts each class has.
@@ -118,33 +116,50 @@ fn taken(shifts: u32) -> PlanScore {
     worth(-i64::from(shifts))
 }
 
-/// A candidate's number, and what is found: how many shifts have a nurse after it, and the shifts that it touches.
-type Case = (u32, Option<(u32, &'static [u32])>);
+/// What is found of a doable candidate: how many shifts have a nurse after it, the shift that it touches, and the other
+/// one where it touches two.
+#[derive(Clone, Copy, Drop)]
+struct Wanted {
+    shifts: u32,
+    touched: u32,
+    other: Option<u32>,
+}
 
-fn expect_touched(rt: &impl Abort, touched: &[Touch], shifts: &[u32]) {
-    assert_eq!(rt; touched.len(), shifts.len());
-    for (touch, id) in touched.iter().zip(shifts) {
-        assert_eq!(rt; (touch.class, touch.id), (SHIFT, *id));
+/// Whether a shift is touched.
+fn is_shift(touch: &Touch, id: u32) -> bool {
+    touch.class == SHIFT && touch.id == id
+}
+
+/// Whether a shift is touched, and another one where there is one, in this order, and nothing more.
+fn are_touched(touched: &[Touch], id: u32, other: Option<u32>) -> bool {
+    match (touched, other) {
+        ([touch], None) => is_shift(touch, id),
+        ([first, second], Some(other)) => is_shift(first, id) && is_shift(second, other),
+        _ => false,
     }
 }
 
-/// Checks what was found of a candidate.
-fn expect_one(rt: &impl Abort, found: &Option<Found>, case: Option<(u32, &'static [u32])>) {
-    assert_eq!(rt; found.is_some(), case.is_some());
-    if let (Some(found), Some((shifts, ids))) = (found, case) {
-        assert_eq!(rt; found.score, taken(shifts));
-        expect_touched(rt, found.touched.as_slice(), ids);
+/// Whether what was found of a candidate is as wanted, which is nothing where it isn't doable.
+fn is_found(found: &Option<Found>, wanted: Option<Wanted>) -> bool {
+    match (found, wanted) {
+        (Some(found), Some(wanted)) => {
+            let touched = found.touched.as_slice();
+            found.score == taken(wanted.shifts)
+                && are_touched(touched, wanted.touched, wanted.other)
+        }
+        (None, None) => true,
+        _ => false,
     }
 }
 
-/// What is found of a candidate of a step is as wanted.
-fn expect_found(
-    rt: &impl Abort,
+/// Whether what a worker finds of a candidate of a step is as wanted.
+fn finds(
     worker: &mut Worker<Silent>,
     kit: &Kit<'_, Silent>,
     step: u32,
-    case: Case,
-) -> Result<(), Memory>
+    number: u32,
+    wanted: Option<Wanted>,
+) -> Result<bool, Memory>
     requires judges { let seen = worker.old.director in
         ⟦<Rules<Silent> as Judges>⟧.judges kit.now.rules.now seen.weights (sizes_of seen.plan) }
     requires own { kit.now.rules.now.defs ≡ worker.old.director.rules }
@@ -152,29 +167,33 @@ fn expect_found(
     requires step { 1 ≤ step }
     ensures { worker.new ≡ worker.old }
 {
-    let found = worker.judge(kit, step, case.0)?;
-    expect_one(rt, &found, case.1);
-    Ok(())
+    let found = worker.judge(kit, step, number)?;
+    Ok(is_found(&found, wanted))
 }
 
-/// So many shifts have a nurse.
-fn expect_score(rt: &impl Abort, score: PlanScore, shifts: u32) {
-    assert_eq!(rt; score, taken(shifts));
-}
-
-/// The plan has these nurses in its shifts.
-fn expect_values(rt: &impl Abort, plan: &Plan, nurses: &[Option<u32>]) {
-    let facts = plan.facts(SHIFT);
-    assert_eq!(rt; facts.len(), nurses.len());
-    for (raw, nurse) in facts.iter().zip(nurses) {
-        assert_eq!(rt; raw.values.as_slice(), [*nurse].as_slice());
+/// Whether a shift has this nurse, or none.
+fn has_nurse(shift: &Raw, nurse: Option<u32>) -> bool {
+    match (shift.values.as_slice(), nurse) {
+        ([Some(value)], Some(nurse)) => *value == nurse,
+        ([None], None) => true,
+        _ => false,
     }
 }
 
-/// The worker's plan has these nurses in shifts 1 to 4, and its score.
-fn expect_nurses(rt: &impl Abort, worker: &Worker<Silent>, nurses: [Option<u32>; 4], shifts: u32) {
-    expect_values(rt, worker.plan(), &nurses);
-    expect_score(rt, worker.score(), shifts);
+/// Whether the plan has these nurses in its shifts.
+fn has_nurses(plan: &Plan, nurses: &[Option<u32>]) -> bool {
+    let shifts = plan.facts(SHIFT);
+    for (shift, nurse) in shifts.iter().zip(nurses) {
+        if !has_nurse(shift, *nurse) {
+            return false;
+        }
+    }
+    shifts.len() == nurses.len()
+}
+
+/// Whether the worker's plan has these nurses in shifts 1 to 4, and its score.
+fn stands(worker: &Worker<Silent>, nurses: [Option<u32>; 4], shifts: u32) -> bool {
+    worker.score() == taken(shifts) && has_nurses(worker.plan(), &nurses)
 }
 
 fn kit_of<'a>(schema: &'a Schema, rules: &'a Rules<Silent>) -> Kit<'a, Silent>
@@ -217,45 +236,57 @@ fn worker_of(alloc: Global, kit: &Kit<'_, Silent>) -> Result<Worker<Silent>, Fai
     Ok(Worker::new(alloc, kit, director)?)
 }
 
-/// Judges the candidates of the first step whose words are known.
-fn judge_three(
-    rt: &impl Abort,
-    worker: &mut Worker<Silent>,
-    kit: &Kit<'_, Silent>,
-) -> Result<(), Memory>
+/// What is found of the first three candidates of the first step.
+const FIRST: [Option<Wanted>; 3] = [
+    Some(Wanted {
+        shifts: 2,
+        touched: 3,
+        other: None,
+    }),
+    None,
+    Some(Wanted {
+        shifts: 4,
+        touched: 2,
+        other: Some(4),
+    }),
+];
+
+/// What is found of candidate 9733 of the second step once a pillar was played.
+const LATER: Wanted = Wanted {
+    shifts: 4,
+    touched: 3,
+    other: None,
+};
+
+/// Whether a worker finds what is known of the candidates of the first step.
+fn judges_three(worker: &mut Worker<Silent>, kit: &Kit<'_, Silent>) -> Result<bool, Memory>
     requires judges { let seen = worker.old.director in
         ⟦<Rules<Silent> as Judges>⟧.judges kit.now.rules.now seen.weights (sizes_of seen.plan) }
     requires own { kit.now.rules.now.defs ≡ worker.old.director.rules }
     requires seed { kit.now.seed ≡ worker.old.seed }
     ensures { worker.new ≡ worker.old }
 {
-    expect_found(rt, worker, kit, 1, (0, Some((2, &[3]))))?;
-    expect_found(rt, worker, kit, 1, (1, None))?;
-    expect_found(rt, worker, kit, 1, (2, Some((4, &[2, 4]))))?;
-    expect_nurses(rt, worker, [Some(3), None, Some(1), None], 2);
-    Ok(())
+    let [first, second, third] = FIRST;
+    let one = finds(worker, kit, 1, 0, first)?;
+    let other = finds(worker, kit, 1, 1, second)?;
+    let last = finds(worker, kit, 1, 2, third)?;
+    Ok(one && other && last && stands(worker, [Some(3), None, Some(1), None], 2))
 }
 
-fn emptied(id: u32) -> Set {
-    Set {
-        class: SHIFT,
-        id,
-        var: 0,
-        value: None,
+/// Whether a set empties a shift.
+fn is_emptied(set: &Set, id: u32) -> bool {
+    set.class == SHIFT && set.id == id && set.var == 0 && set.value.is_none()
+}
+
+/// Whether what takes a played pillar back empties shifts 2 and 4.
+fn empties_two(back: &Option<Edit>) -> bool {
+    match back {
+        Some(back) => match back.sets() {
+            [one, other] => is_emptied(one, 2) && is_emptied(other, 4),
+            _ => false,
+        },
+        None => false,
     }
-}
-
-/// What takes a played pillar back empties shifts 2 and 4.
-fn expect_emptied(rt: &impl Abort, back: Option<Edit>) {
-    let Some(back) = back else {
-        panic!(rt; "not doable")
-    };
-    assert_eq!(rt; back.sets(), [emptied(2), emptied(4)].as_slice());
-}
-
-/// Whether what a worker played was doable is as wanted.
-fn expect_played(rt: &impl Abort, back: Option<Edit>, doable: bool) {
-    assert_eq!(rt; back.is_some(), doable);
 }
 
 /// A worker plays a candidate, after which it may judge and play as before.
@@ -278,73 +309,82 @@ fn play(
     worker.play(kit, step, number)
 }
 
-/// Plays two pillars, one after the other, and judges what is left.
-fn play_two(
-    rt: &impl Abort,
-    worker: &mut Worker<Silent>,
-    kit: &Kit<'_, Silent>,
-) -> Result<(), Memory>
+/// Plays a pillar, after which the worker may play as before; whether it stands as is wanted then.
+fn plays_pillar(worker: &mut Worker<Silent>, kit: &Kit<'_, Silent>) -> Result<bool, Memory>
+    requires judges { let seen = worker.old.director in
+        ⟦<Rules<Silent> as Judges>⟧.judges kit.now.rules.now seen.weights (sizes_of seen.plan) }
+    requires own { kit.now.rules.now.defs ≡ worker.old.director.rules }
+    requires seed { kit.now.seed ≡ worker.old.seed }
+    ensures judges { let seen = worker.new.director in
+        ⟦<Rules<Silent> as Judges>⟧.judges kit.now.rules.now seen.weights (sizes_of seen.plan) }
+    ensures own { kit.now.rules.now.defs ≡ worker.new.director.rules }
+    ensures seed { kit.now.seed ≡ worker.new.seed }
+{
+    let back = play(worker, kit, 1, 2)?;
+    Ok(empties_two(&back) && stands(worker, [Some(3), Some(3), Some(1), Some(3)], 4))
+}
+
+/// Whether a worker that has played a pillar finds what is left.
+fn judges_rest(worker: &mut Worker<Silent>, kit: &Kit<'_, Silent>) -> Result<bool, Memory>
+    requires judges { let seen = worker.old.director in
+        ⟦<Rules<Silent> as Judges>⟧.judges kit.now.rules.now seen.weights (sizes_of seen.plan) }
+    requires own { kit.now.rules.now.defs ≡ worker.old.director.rules }
+    requires seed { kit.now.seed ≡ worker.old.seed }
+    ensures { worker.new ≡ worker.old }
+{
+    let same = finds(worker, kit, 1, 2, None)?;
+    let other = finds(worker, kit, 2, 9733, Some(LATER))?;
+    Ok(same && other)
+}
+
+/// Whether a worker that has played a pillar can play another one, and not the first candidate then.
+fn plays_rest(worker: &mut Worker<Silent>, kit: &Kit<'_, Silent>) -> Result<bool, Memory>
     requires judges { let seen = worker.old.director in
         ⟦<Rules<Silent> as Judges>⟧.judges kit.now.rules.now seen.weights (sizes_of seen.plan) }
     requires own { kit.now.rules.now.defs ≡ worker.old.director.rules }
     requires seed { kit.now.seed ≡ worker.old.seed }
 {
-    expect_emptied(rt, play(worker, kit, 1, 2)?);
-    expect_nurses(rt, worker, [Some(3), Some(3), Some(1), Some(3)], 4);
-    expect_found(rt, worker, kit, 1, (2, None))?;
-    expect_found(rt, worker, kit, 2, (9733, Some((4, &[3]))))?;
-    expect_played(rt, play(worker, kit, 2, 9733)?, true);
-    expect_played(rt, play(worker, kit, 1, 0)?, false);
-    expect_nurses(rt, worker, [Some(3); 4], 4);
-    Ok(())
+    let other = play(worker, kit, 2, 9733)?.is_some();
+    let first = play(worker, kit, 1, 0)?.is_some();
+    Ok(other && !first && stands(worker, [Some(3); 4], 4))
 }
 
-/// A worker judges and plays.
-fn judge_and_play(
-    rt: &impl Abort,
-    worker: &mut Worker<Silent>,
-    kit: &Kit<'_, Silent>,
-) -> Result<(), Fail>
+/// Whether a worker judges and plays as is wanted.
+fn judges_and_plays(worker: &mut Worker<Silent>, kit: &Kit<'_, Silent>) -> Result<bool, Memory>
     requires judges { let seen = worker.old.director in
         ⟦<Rules<Silent> as Judges>⟧.judges kit.now.rules.now seen.weights (sizes_of seen.plan) }
     requires own { kit.now.rules.now.defs ≡ worker.old.director.rules }
     requires seed { kit.now.seed ≡ worker.old.seed }
 {
-    judge_three(rt, worker, kit)?;
-    play_two(rt, worker, kit)?;
-    expect_score(rt, worker.director().score(), 4);
-    Ok(())
+    let judged = judges_three(worker, kit)?;
+    let played = plays_pillar(worker, kit)?;
+    let found = judges_rest(worker, kit)?;
+    let rest = plays_rest(worker, kit)?;
+    Ok(judged && played && found && rest && worker.director().score() == taken(4))
 }
 
-/// The director's plan has four shifts.
-fn expect_shifts(rt: &impl Abort, director: Director<Silent>) {
-    expect_count(rt, director.plan().facts(SHIFT).len());
+/// Whether the director's plan has four shifts.
+fn has_shifts(director: Director<Silent>) -> bool {
+    director.plan().facts(SHIFT).len() == 4
 }
 
-/// There are four.
-fn expect_count(rt: &impl Abort, count: usize) {
-    assert_eq!(rt; count, 4);
-}
-
-/// A worker judges and plays, and gives up its director.
-fn try_worker(rt: &impl Abort, alloc: Global, kit: &Kit<'_, Silent>) -> Result<(), Fail>
+/// Whether a worker judges and plays, and gives up its director.
+fn try_worker(alloc: Global, kit: &Kit<'_, Silent>) -> Result<bool, Fail>
     requires { ⟦<Rules<Silent> as Kept>⟧.keeps kit.now.rules.now }
 {
     let mut worker = worker_of(alloc, kit)?;
-    let tried = judge_and_play(rt, &mut worker, kit);
-    expect_shifts(rt, worker.into_director());
-    tried
+    let tried = judges_and_plays(&mut worker, kit);
+    let left = has_shifts(worker.into_director());
+    Ok(tried? && left)
 }
 
 // The words are those of plan_draws' tests. Under seed 0 nurse 3 gets, by candidates 0 and 2 of step 1, the third and the
 // second of three pillars, and by candidate 9733 of step 2 the second of two; candidate 1 of step 1 gives shift 3 to nurse 1.
 #[test]
 fn candidates_are_judged_and_played(rt: HostRuntime) -> Result<(), Fail> {
-    try_on_plan(&rt, rt.alloc(), Trial::Worker)
+    assert!(rt; try_on_plan(&rt, rt.alloc(), Trial::Worker)?);
+    Ok(())
 }
-
-/// What is found of the first three candidates of the first step.
-const FIRST: [Option<(u32, &'static [u32])>; 3] = [Some((2, &[3])), None, Some((4, &[2, 4]))];
 
 /// A team of so many workers on the plan.
 fn team_of(alloc: Global, kit: &Kit<'_, Silent>, workers: u32) -> Result<Team<Silent>, Fail>
@@ -361,13 +401,27 @@ fn team_of(alloc: Global, kit: &Kit<'_, Silent>, workers: u32) -> Result<Team<Si
     Ok(Team::new(alloc, kit, director, weights.as_slice(), workers)?)
 }
 
-/// Judges the first three candidates of the first step, by batches of so many numbers.
-fn judge_first<T: Threads + Abort + Sync>(
+/// Whether what was found of those candidates of a batch that are known is as wanted.
+fn are_found(first: u32, all: &[Option<Found>]) -> bool {
+    'known: for (wanted, number) in FIRST.iter().zip(0u32..3) {
+        if number >= first {
+            if let Some(found) = all.get((number - first) as usize) {
+                if !is_found(found, *wanted) {
+                    return false;
+                }
+            }
+        }
+    }
+    true
+}
+
+/// Whether a team finds what is known of the first three candidates of the first step, by batches of so many numbers.
+fn judges_first<T: Threads + Sync>(
     rt: &T,
     team: &mut Team<Silent>,
     kit: &Kit<'_, Silent>,
     buffer: u32,
-) -> Result<(), Fail>
+) -> Result<bool, Fail>
     requires whole { team.old.is_torn ≡ false }
     requires judges { let seen = team.old.worker.director in
         ⟦<Rules<Silent> as Judges>⟧.judges kit.now.rules.now seen.weights (sizes_of seen.plan) }
@@ -378,36 +432,27 @@ fn judge_first<T: Threads + Abort + Sync>(
     'batches: for batch in 0u32..3 {
         let first = batch * buffer;
         let all = team.judged(rt, kit, &NoGate, 1, first, buffer)?;
-        expect_from(rt, first, &all);
-    }
-    Ok(())
-}
-
-/// Checks what was found of those candidates of a batch that are known.
-fn expect_from(rt: &impl Abort, first: u32, all: &[Option<Found>]) {
-    'known: for (case, number) in FIRST.iter().zip(0u32..3) {
-        if number >= first {
-            if let Some(found) = all.get((number - first) as usize) {
-                expect_one(rt, found, *case);
-            }
+        if !are_found(first, &all) {
+            return Ok(false);
         }
     }
+    Ok(true)
 }
 
-/// A team of so many workers finds what is known, by batches of so many numbers.
-fn expect_hands<T: Threads + Abort + Sync>(
+/// Whether a team of so many workers finds what is known, by batches of so many numbers.
+fn try_hands<T: Threads + Sync>(
     rt: &T,
     alloc: Global,
     kit: &Kit<'_, Silent>,
     workers: u32,
     buffer: u32,
-) -> Result<(), Fail>
+) -> Result<bool, Fail>
     requires keeps { ⟦<Rules<Silent> as Kept>⟧.keeps kit.now.rules.now }
     requires workers { (1 ≤ workers) × (workers ≤ 16) }
     requires buffer { buffer ≤ 1024 }
 {
     let mut team = team_of(alloc, kit, workers)?;
-    judge_first(rt, &mut team, kit, buffer)
+    judges_first(rt, &mut team, kit, buffer)
 }
 
 /// How many workers a team has, and how many numbers a batch.
@@ -422,42 +467,48 @@ const HANDS: &[(u32, u32)] = &[
     (16, 64),
 ];
 
-/// Teams find what is known, by any workers and batches.
-fn expect_all_hands<T: Threads + Abort + Sync>(
+/// Whether teams find what is known, by any workers and batches.
+fn try_all_hands<T: Threads + Sync>(
     rt: &T,
     alloc: Global,
     kit: &Kit<'_, Silent>,
-) -> Result<(), Fail>
+) -> Result<bool, Fail>
     requires { ⟦<Rules<Silent> as Kept>⟧.keeps kit.now.rules.now }
 {
     'hands: for (workers, buffer) in HANDS {
         let (workers, buffer) = (*workers, *buffer);
-        assert!(rt; 1 <= workers && workers <= 16 && buffer <= 1024);
-        expect_hands(rt, alloc, kit, workers, buffer)?;
+        if workers < 1 || 16 < workers || 1024 < buffer {
+            return Ok(false);
+        }
+        if !try_hands(rt, alloc, kit, workers, buffer)? {
+            return Ok(false);
+        }
     }
-    Ok(())
+    Ok(true)
 }
 
 #[test]
 fn teams_find_the_same_by_any_workers_and_batches(rt: HostRuntime) -> Result<(), Fail> {
-    try_on_plan(&rt, rt.alloc(), Trial::Hands)
+    assert!(rt; try_on_plan(&rt, rt.alloc(), Trial::Hands)?);
+    Ok(())
 }
 
-/// A gate that is not late was entered once at each of four candidates.
-fn expect_entered(rt: &impl Abort, gate: &HoldingGate) {
-    assert!(rt; !gate.is_late());
-    assert!(rt;
-        gate.times(0) == 1 && gate.times(1) == 1 && gate.times(2) == 1 && gate.times(3) == 1
-    );
+/// Whether a gate wasn't late, and was entered once at each of four candidates.
+fn was_entered(gate: &HoldingGate) -> bool {
+    !gate.is_late()
+        && gate.times(0) == 1
+        && gate.times(1) == 1
+        && gate.times(2) == 1
+        && gate.times(3) == 1
 }
 
-/// A team judges four candidates at once, while a gate holds some of them until others were entered.
-fn judge_held<T: Threads + Abort + Sync>(
+/// Whether a team judges four candidates at once, while a gate holds some of them until others were entered.
+fn judges_held<T: Threads + Sync>(
     rt: &T,
     team: &mut Team<Silent>,
     kit: &Kit<'_, Silent>,
     gate: &HoldingGate,
-) -> Result<(), Fail>
+) -> Result<bool, Fail>
     requires whole { team.old.is_torn ≡ false }
     requires judges { let seen = team.old.worker.director in
         ⟦<Rules<Silent> as Judges>⟧.judges kit.now.rules.now seen.weights (sizes_of seen.plan) }
@@ -465,47 +516,43 @@ fn judge_held<T: Threads + Abort + Sync>(
     requires seed { kit.now.seed ≡ team.old.worker.seed }
 {
     let all = team.judged(rt, kit, gate, 1, 0, 4)?;
-    expect_from(rt, 0, &all);
-    expect_entered(rt, gate);
-    Ok(())
+    Ok(are_found(0, &all) && was_entered(gate))
 }
 
-/// The same by two workers.
-fn expect_held<T: Threads + Abort + Sync>(
+/// Whether two workers do the same.
+fn try_held<T: Threads + Sync>(
     rt: &T,
     alloc: Global,
     kit: &Kit<'_, Silent>,
     gate: &HoldingGate,
-) -> Result<(), Fail>
+) -> Result<bool, Fail>
     requires keeps { ⟦<Rules<Silent> as Kept>⟧.keeps kit.now.rules.now }
 {
     let mut team = team_of(alloc, kit, 2)?;
-    judge_held(rt, &mut team, kit, gate)
+    judges_held(rt, &mut team, kit, gate)
 }
 
-/// Both of two workers judge, and a free one takes the next number.
-fn expect_both_gates<T: Threads + Abort + Sync>(
+/// Whether both of two workers judge, and a free one takes the next number.
+fn try_both_gates<T: Threads + Sync>(
     rt: &T,
     alloc: Global,
     kit: &Kit<'_, Silent>,
-) -> Result<(), Fail>
+) -> Result<bool, Fail>
     requires { ⟦<Rules<Silent> as Kept>⟧.keeps kit.now.rules.now }
 {
-    expect_held(rt, alloc, kit, &HoldingGate::new(&[0, 1], &[0, 1]))?;
-    expect_held(rt, alloc, kit, &HoldingGate::new(&[0], &[1, 2, 3]))
+    let both = try_held(rt, alloc, kit, &HoldingGate::new(&[0, 1], &[0, 1]))?;
+    let free = try_held(rt, alloc, kit, &HoldingGate::new(&[0], &[1, 2, 3]))?;
+    Ok(both && free)
 }
 
 #[test]
 fn two_workers_judge_at_once(rt: HostRuntime) -> Result<(), Fail> {
-    try_on_plan(&rt, rt.alloc(), Trial::Gates)
+    assert!(rt; try_on_plan(&rt, rt.alloc(), Trial::Gates)?);
+    Ok(())
 }
 
-/// A team plays a pillar, and all that is asked of it says so.
-fn play_pillar<T: Threads + Abort + Sync>(
-    rt: &T,
-    team: &mut Team<Silent>,
-    kit: &Kit<'_, Silent>,
-) -> Result<(), Memory>
+/// Whether a team plays a pillar, and all that is asked of it says so.
+fn plays_for_all(team: &mut Team<Silent>, kit: &Kit<'_, Silent>) -> Result<bool, Memory>
     requires whole { team.old.is_torn ≡ false }
     requires judges { let seen = team.old.worker.director in
         ⟦<Rules<Silent> as Judges>⟧.judges kit.now.rules.now seen.weights (sizes_of seen.plan) }
@@ -513,30 +560,28 @@ fn play_pillar<T: Threads + Abort + Sync>(
     requires seed { kit.now.seed ≡ team.old.worker.seed }
     ensures whole { OnOk result (team.new.is_torn ≡ false) }
 {
-    expect_emptied(rt, team.play(kit, 1, 2)?);
-    expect_score(rt, team.score(), 4);
-    expect_score(rt, team.lead().score(), 4);
-    expect_count(rt, team.plan().facts(SHIFT).len());
-    Ok(())
+    let back = team.play(kit, 1, 2)?;
+    Ok(
+        empties_two(&back)
+            && team.score() == taken(4)
+            && team.lead().score() == taken(4)
+            && team.plan().facts(SHIFT).len() == 4,
+    )
 }
 
-/// A team of eight plays, and gives up a director.
-fn try_team<T: Threads + Abort + Sync>(
-    rt: &T,
-    alloc: Global,
-    kit: &Kit<'_, Silent>,
-) -> Result<(), Fail>
+/// Whether a team of eight plays, and gives up a director.
+fn try_team(alloc: Global, kit: &Kit<'_, Silent>) -> Result<bool, Fail>
     requires { ⟦<Rules<Silent> as Kept>⟧.keeps kit.now.rules.now }
 {
     let mut team = team_of(alloc, kit, 8)?;
-    play_pillar(rt, &mut team, kit)?;
-    expect_shifts(rt, team.into_director());
-    Ok(())
+    let played = plays_for_all(&mut team, kit)?;
+    Ok(played && has_shifts(team.into_director()))
 }
 
 #[test]
 fn teams_play(rt: HostRuntime) -> Result<(), Fail> {
-    try_on_plan(&rt, rt.alloc(), Trial::Team)
+    assert!(rt; try_on_plan(&rt, rt.alloc(), Trial::Team)?);
+    Ok(())
 }
 
 /// What is tried on the plan.
@@ -549,26 +594,26 @@ enum Trial {
     Turns,
 }
 
-/// Tries it by this kit.
-fn try_by<T: Threads + Abort + Sync>(
+/// Tries it by this kit; whether all is as wanted.
+fn try_by<T: Threads + Sync>(
     rt: &T,
     alloc: Global,
     kit: &Kit<'_, Silent>,
     trial: Trial,
-) -> Result<(), Fail>
+) -> Result<bool, Fail>
     requires { ⟦<Rules<Silent> as Kept>⟧.keeps kit.now.rules.now }
 {
     match trial {
-        Trial::Worker => try_worker(rt, alloc, kit),
-        Trial::Hands => expect_all_hands(rt, alloc, kit),
-        Trial::Gates => expect_both_gates(rt, alloc, kit),
-        Trial::Team => try_team(rt, alloc, kit),
+        Trial::Worker => try_worker(alloc, kit),
+        Trial::Hands => try_all_hands(rt, alloc, kit),
+        Trial::Gates => try_both_gates(rt, alloc, kit),
+        Trial::Team => try_team(alloc, kit),
         Trial::Turns => try_turns(rt, alloc, kit),
     }
 }
 
-/// Tries it on the plan, under the one rule.
-fn try_on_plan<T: Threads + Abort + Sync>(rt: &T, alloc: Global, trial: Trial) -> Result<(), Fail> {
+/// Tries it on the plan, under the one rule; whether all is as wanted.
+fn try_on_plan<T: Threads + Sync>(rt: &T, alloc: Global, trial: Trial) -> Result<bool, Fail> {
     let schema = schema(alloc)?;
     let rules = rules_of(alloc, &schema)?;
     try_by(rt, alloc, &kit_of(&schema, &rules), trial)

@@ -34,7 +34,7 @@ pub(super) const CLASSES: &[ClassSketch] = &[
 ];
 
 /// The names of the rules.
-pub(super) const RULES: &[&str] = &["room_conflict", "room_size"];
+pub(super) const RULES: [&str; 2] = ["room_conflict", "room_size"];
 
 /// What a match of each is worth.
 pub(super) const PENALTY: Worth = Worth {
@@ -61,7 +61,7 @@ pub(super) struct Course {
     pub(super) facts: &'static [&'static [FactSketch]],
     pub(super) names: &'static [&'static str],
     pub(super) turns: &'static [Turn],
-    pub(super) sizes: &'static [u32],
+    pub(super) sizes: [u32; 4],
     pub(super) names_after: u32,
 }
 
@@ -101,7 +101,7 @@ pub(super) const COURSES: &[Course] = &[
             ),
             Turn(0, Some("{"), "change 6 0 refused syntax json"),
         ],
-        sizes: &[1, 3, 0, 0],
+        sizes: [1, 3, 0, 0],
         names_after: 0,
     },
     // Behind a line that is too long the next one is read.
@@ -116,7 +116,7 @@ pub(super) const COURSES: &[Course] = &[
                 "change 2 0 applied room#2",
             ),
         ],
-        sizes: &[1, 2, 0, 0],
+        sizes: [1, 2, 0, 0],
         names_after: 0,
     },
     // A room comes at one boundary, a lesson with new names at another.
@@ -137,7 +137,7 @@ pub(super) const COURSES: &[Course] = &[
                 "change 2 3 applied lesson#1",
             ),
         ],
-        sizes: &[1, 2, 1, 0],
+        sizes: [1, 2, 1, 0],
         names_after: 3,
     },
     // Ids go on behind the greatest; the names of a lesson that is refused aren't kept.
@@ -196,7 +196,7 @@ pub(super) const COURSES: &[Course] = &[
                 "change 6 20 applied rule room_size",
             ),
         ],
-        sizes: &[4, 1, 2, 1],
+        sizes: [4, 1, 2, 1],
         names_after: 5,
     },
     // A rule that isn't there gets no weight; a slot goes.
@@ -236,7 +236,7 @@ pub(super) const COURSES: &[Course] = &[
                 "change 4 0 applied timeslot#15",
             ),
         ],
-        sizes: &[0, 1, 3, 2],
+        sizes: [0, 1, 3, 2],
         names_after: 7,
     },
     // A slot is altered, a lesson with new names comes, and lessons are assigned at later boundaries.
@@ -289,7 +289,7 @@ pub(super) const COURSES: &[Course] = &[
                 "change 5 9 applied lesson#2",
             ),
         ],
-        sizes: &[2, 1, 4, 2],
+        sizes: [2, 1, 4, 2],
         names_after: 11,
     },
 ];

@@ -1,6 +1,6 @@
 //! Plans with what placing makes of them, worked by hand.
 use crate::tests::closures::{PAST, ROOMLESS, SHARED};
-use crate::tests::sketches::{HeadSketch, NodeSketch};
+use crate::tests::sketches::{HeadSketch, Joiners, NodeSketch};
 use plan_rules::Joiner;
 use plan_scores::{Level, PlanScore, Score};
 use test_plans::FactSketch;
@@ -14,24 +14,24 @@ pub(super) const LESSON: u8 = 2;
 
 /// The rules: their names and levels, their heads and their nodes. Two lessons shouldn't share a room, a lesson should have
 /// one, and its id and that of its room be at most 3 together.
-pub(super) const RULES: &[(&str, Level, HeadSketch, &[NodeSketch])] = &[
+pub(super) const RULES: [(&str, Level, HeadSketch, Option<NodeSketch>); 3] = [
     (
         "shared",
         Level::Hard,
-        HeadSketch::Pairs(LESSON, &[Joiner::Filtering(SHARED)]),
-        &[],
+        HeadSketch::Pairs(LESSON, Joiners::One(Joiner::Filtering(SHARED))),
+        None,
     ),
     (
         "roomless",
         Level::Medium,
         HeadSketch::ForEachNulls(LESSON),
-        &[NodeSketch::Filter(ROOMLESS)],
+        Some(NodeSketch::Filter(ROOMLESS)),
     ),
     (
         "past",
         Level::Soft,
         HeadSketch::ForEach(LESSON),
-        &[NodeSketch::Filter(PAST)],
+        Some(NodeSketch::Filter(PAST)),
     ),
 ];
 

@@ -1,6 +1,6 @@
 //! Rules with what they make of the plan, worked by hand.
 use crate::tests::closures::{BY_HUNDRED, BY_THREE, MOST, PAST_IDS};
-use crate::tests::sketches::{HeadSketch, NodeSketch, Worth};
+use crate::tests::sketches::{HeadSketch, Joiners, NodeSketch, Worth};
 use plan_rules::{Collect, Joiner};
 use plan_scores::Level;
 
@@ -8,14 +8,15 @@ const TASK: u8 = 0;
 
 pub(super) const ROOM: u8 = 1;
 
-/// A rule, in short, the rows that it has over the plan, a task by its id, a room by its id and 100, and a number by
-/// itself, and the sum of their impacts at its level.
+/// A rule, in short; how many parts each row has that it has over the plan, and the numbers of these, row by row, a
+/// task by its id, a room by its id and 100, and a number by itself; and the sum of the rows' impacts at its level.
 pub(super) struct Case {
     pub(super) name: &'static str,
     pub(super) worth: Worth,
     pub(super) head: HeadSketch,
-    pub(super) nodes: &'static [NodeSketch],
-    pub(super) rows: &'static [&'static [i64]],
+    pub(super) node: Option<NodeSketch>,
+    pub(super) parts: usize,
+    pub(super) rows: &'static [i64],
     pub(super) impact: i64,
 }
 
@@ -33,14 +34,20 @@ const ALL_TASKS: HeadSketch = HeadSketch::ForEachNulls(TASK);
 
 const ROOMS: HeadSketch = HeadSketch::ForEach(ROOM);
 
-const SAME_REMAINDERS: &[Joiner] = &[Joiner::Equal(BY_THREE, BY_THREE)];
+const SAME_REMAINDERS: Joiners = Joiners::One(Joiner::Equal(BY_THREE, BY_THREE));
 
-const SAME_IDS: &[Joiner] = &[Joiner::Equal(BY_HUNDRED, BY_HUNDRED)];
+const SAME_IDS: Joiners = Joiners::One(Joiner::Equal(BY_HUNDRED, BY_HUNDRED));
 
-const LESS_AND_PAST: &[Joiner] = &[
+const LESS_AND_PAST: Joiners = Joiners::Two(
     Joiner::Less(BY_HUNDRED, BY_HUNDRED),
     Joiner::Filtering(PAST_IDS),
-];
+);
+
+const GREATER_REMAINDERS: Joiners = Joiners::One(Joiner::Greater(BY_THREE, BY_THREE));
+
+const REMAINDERS_PAST_IDS: Joiners = Joiners::One(Joiner::GreaterOrEqual(BY_THREE, BY_HUNDRED));
+
+const IDS_UP_TO_REMAINDERS: Joiners = Joiners::One(Joiner::LessOrEqual(BY_HUNDRED, BY_THREE));
 
 /// The plan has tasks 1 and 2 in room 1, task 3 in none, tasks 4 and 6 in room 3, and the rooms 1, 3 and 5.
 pub(super) const CASES: &[Case] = &[
@@ -49,24 +56,27 @@ pub(super) const CASES: &[Case] = &[
         name: "placed",
         worth: ONE,
         head: PLACED_TASKS,
-        nodes: &[],
-        rows: &[&[1], &[2], &[4], &[6]],
+        node: None,
+        parts: 1,
+        rows: &[1, 2, 4, 6],
         impact: 4,
     },
     Case {
         name: "all",
         worth: ONE,
         head: ALL_TASKS,
-        nodes: &[],
-        rows: &[&[1], &[2], &[3], &[4], &[6]],
+        node: None,
+        parts: 1,
+        rows: &[1, 2, 3, 4, 6],
         impact: 5,
     },
     Case {
         name: "pairs",
         worth: ONE,
-        head: HeadSketch::Pairs(TASK, &[Joiner::Greater(BY_THREE, BY_THREE)]),
-        nodes: &[],
-        rows: &[&[1, 6], &[2, 4], &[2, 6], &[4, 6]],
+        head: HeadSketch::Pairs(TASK, GREATER_REMAINDERS),
+        node: None,
+        parts: 2,
+        rows: &[1, 6, 2, 4, 2, 6, 4, 6],
         impact: 4,
     },
     // Filters, and joins of rooms with tasks.
@@ -74,39 +84,36 @@ pub(super) const CASES: &[Case] = &[
         name: "filter",
         worth: ONE,
         head: ALL_TASKS,
-        nodes: &[NodeSketch::Filter(PAST_IDS)],
-        rows: &[&[4], &[6]],
+        node: Some(NodeSketch::Filter(PAST_IDS)),
+        parts: 1,
+        rows: &[4, 6],
         impact: 2,
     },
     Case {
         name: "join",
         worth: ONE,
         head: ROOMS,
-        nodes: &[NodeSketch::Join(TASK, false, SAME_REMAINDERS)],
-        rows: &[&[101, 1], &[101, 4], &[103, 6], &[105, 2]],
+        node: Some(NodeSketch::Join(TASK, false, SAME_REMAINDERS)),
+        parts: 2,
+        rows: &[101, 1, 101, 4, 103, 6, 105, 2],
         impact: 4,
     },
     Case {
         name: "join_nulls",
         worth: ONE,
         head: ROOMS,
-        nodes: &[NodeSketch::Join(TASK, true, SAME_REMAINDERS)],
-        rows: &[&[101, 1], &[101, 4], &[103, 3], &[103, 6], &[105, 2]],
+        node: Some(NodeSketch::Join(TASK, true, SAME_REMAINDERS)),
+        parts: 2,
+        rows: &[101, 1, 101, 4, 103, 3, 103, 6, 105, 2],
         impact: 5,
     },
     Case {
         name: "join_past",
         worth: ONE,
         head: ROOMS,
-        nodes: &[NodeSketch::Join(TASK, true, LESS_AND_PAST)],
-        rows: &[
-            &[101, 3],
-            &[101, 4],
-            &[101, 6],
-            &[103, 4],
-            &[103, 6],
-            &[105, 6],
-        ],
+        node: Some(NodeSketch::Join(TASK, true, LESS_AND_PAST)),
+        parts: 2,
+        rows: &[101, 3, 101, 4, 101, 6, 103, 4, 103, 6, 105, 6],
         impact: 6,
     },
     // Rooms for which there are tasks, and for which there are none.
@@ -114,32 +121,36 @@ pub(super) const CASES: &[Case] = &[
         name: "exists",
         worth: ONE,
         head: ROOMS,
-        nodes: &[NodeSketch::IfExists(TASK, false, SAME_IDS)],
-        rows: &[&[101]],
+        node: Some(NodeSketch::IfExists(TASK, false, SAME_IDS)),
+        parts: 1,
+        rows: &[101],
         impact: 1,
     },
     Case {
         name: "exists_nulls",
         worth: ONE,
         head: ROOMS,
-        nodes: &[NodeSketch::IfExists(TASK, true, SAME_IDS)],
-        rows: &[&[101], &[103]],
+        node: Some(NodeSketch::IfExists(TASK, true, SAME_IDS)),
+        parts: 1,
+        rows: &[101, 103],
         impact: 2,
     },
     Case {
         name: "exists_not",
         worth: ONE,
         head: ROOMS,
-        nodes: &[NodeSketch::IfNotExists(TASK, false, SAME_IDS)],
-        rows: &[&[103], &[105]],
+        node: Some(NodeSketch::IfNotExists(TASK, false, SAME_IDS)),
+        parts: 1,
+        rows: &[103, 105],
         impact: 2,
     },
     Case {
         name: "exists_not_nulls",
         worth: ONE,
         head: ROOMS,
-        nodes: &[NodeSketch::IfNotExists(TASK, true, SAME_IDS)],
-        rows: &[&[105]],
+        node: Some(NodeSketch::IfNotExists(TASK, true, SAME_IDS)),
+        parts: 1,
+        rows: &[105],
         impact: 1,
     },
     // Room 1 has the remainder 1, and task 1 suits it; room 3 has 0; room 5 has 2, and the tasks 1 and 2 suit it.
@@ -147,12 +158,9 @@ pub(super) const CASES: &[Case] = &[
         name: "exists_once",
         worth: ONE,
         head: ROOMS,
-        nodes: &[NodeSketch::IfExists(
-            TASK,
-            false,
-            &[Joiner::GreaterOrEqual(BY_THREE, BY_HUNDRED)],
-        )],
-        rows: &[&[101], &[105]],
+        node: Some(NodeSketch::IfExists(TASK, false, REMAINDERS_PAST_IDS)),
+        parts: 1,
+        rows: &[101, 105],
         impact: 2,
     },
     // Only room 1 has an id that is at most a task's remainder by 3.
@@ -160,8 +168,9 @@ pub(super) const CASES: &[Case] = &[
         name: "lonely",
         worth: ONE,
         head: ROOMS,
-        nodes: &[NodeSketch::IfNotExists(TASK, true, &[Joiner::LessOrEqual(BY_HUNDRED, BY_THREE)])],
-        rows: &[&[103], &[105]],
+        node: Some(NodeSketch::IfNotExists(TASK, true, IDS_UP_TO_REMAINDERS)),
+        parts: 1,
+        rows: &[103, 105],
         impact: 2,
     },
     // Groups of all tasks by their remainders by 3: 3 and 6, then 1 and 4, then 2.
@@ -169,40 +178,45 @@ pub(super) const CASES: &[Case] = &[
         name: "count",
         worth: ONE,
         head: ALL_TASKS,
-        nodes: &[NodeSketch::GroupBy(&[BY_THREE], Collect::Count)],
-        rows: &[&[0, 2], &[1, 2], &[2, 1]],
+        node: Some(NodeSketch::GroupBy(BY_THREE, None, Collect::Count)),
+        parts: 2,
+        rows: &[0, 2, 1, 2, 2, 1],
         impact: 3,
     },
     Case {
         name: "sum",
         worth: ONE,
         head: ALL_TASKS,
-        nodes: &[NodeSketch::GroupBy(&[BY_THREE], Collect::Sum(BY_HUNDRED))],
-        rows: &[&[0, 9], &[1, 5], &[2, 2]],
+        node: Some(NodeSketch::GroupBy(BY_THREE, None, Collect::Sum(BY_HUNDRED))),
+        parts: 2,
+        rows: &[0, 9, 1, 5, 2, 2],
         impact: 3,
     },
     Case {
         name: "min",
         worth: ONE,
         head: ALL_TASKS,
-        nodes: &[NodeSketch::GroupBy(&[BY_THREE], Collect::Min(BY_HUNDRED))],
-        rows: &[&[0, 3], &[1, 1], &[2, 2]],
+        node: Some(NodeSketch::GroupBy(BY_THREE, None, Collect::Min(BY_HUNDRED))),
+        parts: 2,
+        rows: &[0, 3, 1, 1, 2, 2],
         impact: 3,
     },
     Case {
         name: "max",
         worth: ONE,
         head: ALL_TASKS,
-        nodes: &[NodeSketch::GroupBy(&[BY_THREE], Collect::Max(BY_HUNDRED))],
-        rows: &[&[0, 6], &[1, 4], &[2, 2]],
+        node: Some(NodeSketch::GroupBy(BY_THREE, None, Collect::Max(BY_HUNDRED))),
+        parts: 2,
+        rows: &[0, 6, 1, 4, 2, 2],
         impact: 3,
     },
     Case {
         name: "two_keys",
         worth: ONE,
         head: ALL_TASKS,
-        nodes: &[NodeSketch::GroupBy(&[BY_THREE, BY_HUNDRED], Collect::Max(BY_HUNDRED))],
-        rows: &[&[0, 3, 3], &[0, 6, 6], &[1, 1, 1], &[1, 4, 4], &[2, 2, 2]],
+        node: Some(NodeSketch::GroupBy(BY_THREE, Some(BY_HUNDRED), Collect::Max(BY_HUNDRED))),
+        parts: 3,
+        rows: &[0, 3, 3, 0, 6, 6, 1, 1, 1, 1, 4, 4, 2, 2, 2],
         impact: 5,
     },
     // Groups of all pairs of placed tasks by the first one's remainder by 3: 1 with 2, 4 and 6, and 4 with 6; then 2
@@ -210,9 +224,10 @@ pub(super) const CASES: &[Case] = &[
     Case {
         name: "different",
         worth: ONE,
-        head: HeadSketch::Pairs(TASK, &[]),
-        nodes: &[NodeSketch::GroupBy(&[BY_THREE], Collect::CountDistinct(BY_HUNDRED))],
-        rows: &[&[1, 2], &[2, 1]],
+        head: HeadSketch::Pairs(TASK, Joiners::Nothing),
+        node: Some(NodeSketch::GroupBy(BY_THREE, None, Collect::CountDistinct(BY_HUNDRED))),
+        parts: 2,
+        rows: &[1, 2, 2, 1],
         impact: 2,
     },
     // Penalties, weights, weighers and the other levels.
@@ -225,8 +240,9 @@ pub(super) const CASES: &[Case] = &[
             weigh: None,
         },
         head: HeadSketch::Pairs(TASK, SAME_REMAINDERS),
-        nodes: &[],
-        rows: &[&[1, 4]],
+        node: None,
+        parts: 2,
+        rows: &[1, 4],
         impact: -2,
     },
     Case {
@@ -238,8 +254,9 @@ pub(super) const CASES: &[Case] = &[
             weigh: Some(MOST),
         },
         head: ALL_TASKS,
-        nodes: &[NodeSketch::Filter(PAST_IDS)],
-        rows: &[&[4], &[6]],
+        node: Some(NodeSketch::Filter(PAST_IDS)),
+        parts: 1,
+        rows: &[4, 6],
         impact: 27,
     },
     Case {
@@ -251,8 +268,9 @@ pub(super) const CASES: &[Case] = &[
             weigh: Some(MOST),
         },
         head: PLACED_TASKS,
-        nodes: &[],
-        rows: &[&[1], &[2], &[4], &[6]],
+        node: None,
+        parts: 1,
+        rows: &[1, 2, 4, 6],
         impact: -12,
     },
     Case {
@@ -264,8 +282,9 @@ pub(super) const CASES: &[Case] = &[
             weigh: None,
         },
         head: ROOMS,
-        nodes: &[],
-        rows: &[&[101], &[103], &[105]],
+        node: None,
+        parts: 1,
+        rows: &[101, 103, 105],
         impact: 0,
     },
 ];

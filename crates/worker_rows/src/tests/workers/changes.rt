@@ -4,7 +4,7 @@ ghost use Rattle.std.specs.Prelude.{◌≡◌, ◌≤◌, OnOk, false, length};
 ghost use Rattle.plan_changes.specs.Fits.{IsOfSchema};
 ghost use Rattle.plan_rules.specs.Range.{sizes_of};
 
-use super::{Silent, Trial, expect_touched, expect_values, team_of, try_on_plan};
+use super::{Silent, Trial, are_touched, has_nurses, team_of, try_on_plan};
 use crate::worth;
 use move_workers::{Kit, Team};
 use plan_changes::{Change, Deed, FieldItem, Item, ValueItem};
@@ -14,7 +14,6 @@ use plan_rules::{Judges, Kept, Rules};
 use plan_scores::PlanScore;
 use plan_search::Found;
 use std::alloc::Global;
-use std::process::Abort;
 use std::test::Fail;
 use std::thread::Threads;
 
@@ -48,31 +47,33 @@ const TURNS: &[Turn] = &[
 /// The nurses of the shifts once all turns were taken.
 const NURSES: [Option<u32>; 5] = [None, None, Some(1), None, Some(2)];
 
-/// Gives the change what is given.
-fn give(rt: &impl Abort, alloc: Global, change: &mut Change, given: Given) -> Result<(), Memory> {
+/// Gives the change what is given; whether it takes it.
+fn give(alloc: Global, change: &mut Change, given: Given) -> Result<bool, Memory> {
     match given {
-        Nothing => {}
+        Nothing => Ok(true),
         Skill(skill) => {
             let name = Text::from_slice(alloc, b"skill")?;
             let item = Item::Name(Text::from_slice(alloc, skill.as_bytes())?);
-            assert!(rt; change.give_field(FieldItem { name, item })?);
+            change.give_field(FieldItem { name, item })
         }
         Nurse(nurse) => {
             let name = Text::from_slice(alloc, b"nurse")?;
             let value = Some(nurse);
-            assert!(rt; change.give_value(ValueItem { name, value })?);
+            change.give_value(ValueItem { name, value })
         }
         Weight(weight) => {
-            assert!(rt; weight <= 1_000_000);
+            if weight > 1_000_000 {
+                return Ok(false);
+            }
             change.weight = weight;
+            Ok(true)
         }
     }
-    Ok(())
 }
 
-/// The change of a turn.
-fn change_of(rt: &impl Abort, alloc: Global, turn: Turn) -> Result<Change, Memory> {
-    let Turn(deed, name, id, given, _, _) = turn;
+/// The change of a turn, to which nothing is given so far.
+fn bare_change(alloc: Global, turn: Turn) -> Result<Change, Memory> {
+    let Turn(deed, name, id, _, _, _) = turn;
     let name = Text::from_slice(alloc, name.as_bytes())?;
     let mut change = Change::new(alloc, deed);
     if deed == Deed::Weight {
@@ -81,19 +82,24 @@ fn change_of(rt: &impl Abort, alloc: Global, turn: Turn) -> Result<Change, Memor
         change.class = name;
     }
     change.id = id;
-    give(rt, alloc, &mut change, given)?;
     Ok(change)
 }
 
-/// A team makes the change of a turn, after which the next one may be made.
+/// The change of a turn, if it takes what is given.
+fn change_of(alloc: Global, turn: Turn) -> Result<Option<Change>, Memory> {
+    let Turn(_, _, _, given, _, _) = turn;
+    let mut change = bare_change(alloc, turn)?;
+    let taken = give(alloc, &mut change, given)?;
+    Ok(if taken { Some(change) } else { None })
+}
+
+/// A team makes a change, after which the next one may be made; whether it isn't refused.
 fn make(
-    rt: &impl Abort,
-    alloc: Global,
     team: &mut Team<Silent>,
     kit: &Kit<'_, Silent>,
     names: &mut Names,
-    turn: Turn,
-) -> Result<(), Memory>
+    change: &Change,
+) -> Result<bool, Memory>
     requires whole { team.old.is_torn ≡ false }
     requires judges { let seen = team.old.worker.director in
         ⟦<Rules<Silent> as Judges>⟧.judges kit.now.rules.now seen.weights (sizes_of seen.plan) }
@@ -106,33 +112,59 @@ fn make(
     ensures seed { OnOk result (team.new.worker.seed ≡ team.old.worker.seed) }
     ensures schema { OnOk result (IsOfSchema kit.now.schema.now team.new.worker.director.plan) }
 {
-    assert!(rt; names.count() <= MOST_NAMES);
-    let change = change_of(rt, alloc, turn)?;
-    match team.lead().ready(kit.rules, kit.schema, names, &change) {
+    if MOST_NAMES < names.count() {
+        return Ok(false);
+    }
+    match team.lead().ready(kit.rules, kit.schema, names, change) {
         Ok(ready) => {
             team.change(kit, names, &ready)?;
-            Ok(())
+            Ok(true)
         }
-        Err(_) => panic!(rt; "refused"),
+        Err(_) => Ok(false),
     }
 }
 
-/// After a turn the plan is worth what is wanted, and there are as many names.
-fn expect_turn(rt: &impl Abort, turn: Turn, score: PlanScore, names: u32) {
+/// Whether after a turn the plan is worth what is wanted, and there are as many names.
+fn is_turn(turn: Turn, score: PlanScore, names: u32) -> bool {
     let Turn(_, _, _, _, hard, count) = turn;
-    assert_eq!(rt; score, worth(hard));
-    assert_eq!(rt; names, count);
+    score == worth(hard) && names == count
 }
 
-/// A team takes some turns.
+/// A team makes the change of a turn, after which the next one may be made; whether it comes to what is wanted.
+fn take_turn(
+    alloc: Global,
+    team: &mut Team<Silent>,
+    kit: &Kit<'_, Silent>,
+    names: &mut Names,
+    turn: Turn,
+) -> Result<bool, Memory>
+    requires whole { team.old.is_torn ≡ false }
+    requires judges { let seen = team.old.worker.director in
+        ⟦<Rules<Silent> as Judges>⟧.judges kit.now.rules.now seen.weights (sizes_of seen.plan) }
+    requires own { kit.now.rules.now.defs ≡ team.old.worker.director.rules }
+    requires schema { IsOfSchema kit.now.schema.now team.old.worker.director.plan }
+    ensures whole { OnOk result (team.new.is_torn ≡ false) }
+    ensures judges { let seen = team.new.worker.director in
+        OnOk result (⟦<Rules<Silent> as Judges>⟧.judges kit.now.rules.now seen.weights (sizes_of seen.plan)) }
+    ensures own { OnOk result (kit.now.rules.now.defs ≡ team.new.worker.director.rules) }
+    ensures seed { OnOk result (team.new.worker.seed ≡ team.old.worker.seed) }
+    ensures schema { OnOk result (IsOfSchema kit.now.schema.now team.new.worker.director.plan) }
+{
+    let Some(change) = change_of(alloc, turn)? else {
+        return Ok(false);
+    };
+    let made = make(team, kit, names, &change)?;
+    Ok(made && is_turn(turn, team.score(), names.count()))
+}
+
+/// A team takes some turns; whether each comes to what is wanted.
 fn take(
-    rt: &impl Abort,
     alloc: Global,
     team: &mut Team<Silent>,
     kit: &Kit<'_, Silent>,
     names: &mut Names,
     turns: &[Turn],
-) -> Result<(), Memory>
+) -> Result<bool, Memory>
     requires whole { team.old.is_torn ≡ false }
     requires judges { let seen = team.old.worker.director in
         ⟦<Rules<Silent> as Judges>⟧.judges kit.now.rules.now seen.weights (sizes_of seen.plan) }
@@ -145,55 +177,57 @@ fn take(
     ensures seed { OnOk result (team.new.worker.seed ≡ team.old.worker.seed) }
 {
     let Some((first, rest)) = turns.split_first() else {
-        return Ok(());
+        return Ok(true);
     };
-    make(rt, alloc, team, kit, names, *first)?;
-    expect_turn(rt, *first, team.score(), names.count());
-    take(rt, alloc, team, kit, names, rest)
+    if !take_turn(alloc, team, kit, names, *first)? {
+        return Ok(false);
+    }
+    take(alloc, team, kit, names, rest)
 }
 
-/// What is found after all turns of the first candidate: the shift that came gets the nurse who came.
-fn expect_last(rt: &impl Abort, all: &[Option<Found>]) {
-    let Some(Some(found)) = all.first() else {
-        panic!(rt; "not doable")
-    };
-    assert_eq!(rt; found.score, worth(-10));
-    expect_touched(rt, found.touched.as_slice(), &[5]);
+/// Whether, after all turns, the first candidate gives the shift that came the nurse who came.
+fn is_last(all: &[Option<Found>]) -> bool {
+    match all.first() {
+        Some(Some(found)) => {
+            found.score == worth(-10) && are_touched(found.touched.as_slice(), 5, None)
+        }
+        _ => false,
+    }
 }
 
 /// Names of which the first is that of the nurses' skill.
-fn names_of(rt: &impl Abort, alloc: Global) -> Result<Names, Memory> {
+fn names_of(alloc: Global) -> Result<Names, Fail> {
     let mut names = Names::new(alloc);
-    let number = names.number(b"night")?;
-    assert_eq!(rt; number, 0);
+    if names.number(b"night")? != 0 {
+        return Err("another number".into());
+    }
     Ok(names)
 }
 
-/// After all turns the shifts have these nurses, and what is found of a candidate is as wanted.
-fn expect_after<T: Threads + Abort + Sync>(
+/// Whether, after all turns, the shifts have these nurses, and what is found of a candidate is as wanted.
+fn ends<T: Threads + Sync>(
     rt: &T,
     team: &mut Team<Silent>,
     kit: &Kit<'_, Silent>,
-) -> Result<(), Memory>
+) -> Result<bool, Memory>
     requires whole { team.old.is_torn ≡ false }
     requires judges { let seen = team.old.worker.director in
         ⟦<Rules<Silent> as Judges>⟧.judges kit.now.rules.now seen.weights (sizes_of seen.plan) }
     requires own { kit.now.rules.now.defs ≡ team.old.worker.director.rules }
     requires seed { kit.now.seed ≡ team.old.worker.seed }
 {
-    expect_values(rt, team.plan(), &NURSES);
+    let placed = has_nurses(team.plan(), &NURSES);
     let all = team.judged(rt, kit, &NoGate, 1, 0, 1)?;
-    expect_last(rt, &all);
-    Ok(())
+    Ok(placed && is_last(&all))
 }
 
-/// A team takes all turns.
-fn take_all<T: Threads + Abort + Sync>(
+/// Whether a team takes all turns as is wanted.
+fn take_all<T: Threads + Sync>(
     rt: &T,
     alloc: Global,
     team: &mut Team<Silent>,
     kit: &Kit<'_, Silent>,
-) -> Result<(), Fail>
+) -> Result<bool, Fail>
     requires whole { team.old.is_torn ≡ false }
     requires judges { let seen = team.old.worker.director in
         ⟦<Rules<Silent> as Judges>⟧.judges kit.now.rules.now seen.weights (sizes_of seen.plan) }
@@ -201,19 +235,19 @@ fn take_all<T: Threads + Abort + Sync>(
     requires seed { kit.now.seed ≡ team.old.worker.seed }
     requires schema { IsOfSchema kit.now.schema.now team.old.worker.director.plan }
 {
-    let mut names = names_of(rt, alloc)?;
-    take(rt, alloc, team, kit, &mut names, TURNS)?;
-    expect_after(rt, team, kit)?;
-    Ok(())
+    let mut names = names_of(alloc)?;
+    let taken = take(alloc, team, kit, &mut names, TURNS)?;
+    let ended = ends(rt, team, kit)?;
+    Ok(taken && ended)
 }
 
-/// A team of so many workers takes all turns.
-fn try_turns_by<T: Threads + Abort + Sync>(
+/// Whether a team of so many workers takes all turns as is wanted.
+fn try_turns_by<T: Threads + Sync>(
     rt: &T,
     alloc: Global,
     kit: &Kit<'_, Silent>,
     workers: u32,
-) -> Result<(), Fail>
+) -> Result<bool, Fail>
     requires keeps { ⟦<Rules<Silent> as Kept>⟧.keeps kit.now.rules.now }
     requires workers { (1 ≤ workers) × (workers ≤ 16) }
 {
@@ -221,21 +255,23 @@ fn try_turns_by<T: Threads + Abort + Sync>(
     take_all(rt, alloc, &mut team, kit)
 }
 
-/// Teams of one and of three take all turns.
-pub fn try_turns<T: Threads + Abort + Sync>(
+/// Whether teams of one and of three take all turns as is wanted.
+pub fn try_turns<T: Threads + Sync>(
     rt: &T,
     alloc: Global,
     kit: &Kit<'_, Silent>,
-) -> Result<(), Fail>
+) -> Result<bool, Fail>
     requires { ⟦<Rules<Silent> as Kept>⟧.keeps kit.now.rules.now }
 {
-    try_turns_by(rt, alloc, kit, 1)?;
-    try_turns_by(rt, alloc, kit, 3)
+    let one = try_turns_by(rt, alloc, kit, 1)?;
+    let three = try_turns_by(rt, alloc, kit, 3)?;
+    Ok(one && three)
 }
 
 // Candidate 0 of step 1 gives the third of three pillars the third of four choices, as before the changes; these are nurses
 // 1, 2 and 4 and none now, and the pillar is that of the shift that came.
 #[test]
 fn teams_change(rt: HostRuntime) -> Result<(), Fail> {
-    try_on_plan(&rt, rt.alloc(), Trial::Turns)
+    assert!(rt; try_on_plan(&rt, rt.alloc(), Trial::Turns)?);
+    Ok(())
 }

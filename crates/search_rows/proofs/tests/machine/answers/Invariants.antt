@@ -1,6 +1,6 @@
 use Rattle.search_rows.specs.Posted.{HasFewPosts}
-use Rattle.search_rows.proofs.tests.machine.assert_answers.Given as goal
+use Rattle.search_rows.proofs.tests.machine.answers.Given as goal
 
 -- no more posts than events so far
 abbrev pub invariant-loop-place : goal.invariant-loop-place
-invariant-loop-place g l = HasFewPosts l.core l.place
+invariant-loop-place l = HasFewPosts l.core l.place

@@ -1,4 +1,0 @@
-use Rattle.search_rows.proofs.tests.recalc.expect_both.Given as goal
-
-abbrev pub ghosts-expect_counted : goal.ghosts-expect_counted
-ghosts-expect_counted g a = record { name = a.blank.name; parts = a.blank.parts }

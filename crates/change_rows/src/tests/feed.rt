@@ -1,16 +1,11 @@
 //! Lines of feeds, and what they are read as.
 
-ghost use Rattle.std.specs.Prelude.{◌≡◌, ◌≤◌, false};
-
+use super::expect_none;
 use crate::spot_words;
 use change_feed::{Feed, FeedFault, body_of};
-use plan_changes::{Body, Change, Deed, FieldItem, Item, LineFault, ValueItem};
-use plan_facts::Text;
+use plan_changes::{Body, Change, Deed, FieldItem, Item, LineFault, Post, ValueItem};
 use plan_ports::MemSource;
 use std::alloc::{AllocError, Global};
-use std::fmt::Write;
-use std::process::Abort;
-use std::str;
 use std::test::Fail;
 
 /// The words of a deed.
@@ -34,430 +29,442 @@ fn body_words(body: &Body) -> &'static str {
     }
 }
 
-/// Fails where the line isn't read so.
-fn try_line(rt: &impl Abort, alloc: Global, line: &[u8], want: &str) -> Result<(), Fail> {
-    let body = body_of(alloc, line)?;
-    assert_eq!(rt; body_words(&body), want);
-    Ok(())
-}
+/// Lines of text behind what they are read as.
+const LINES: &str = r#"syntax json: {
+syntax object: []
+syntax object: null
+syntax object: 7
+syntax do: {"class":"room"}
+syntax do: {"do":1,"class":"room"}
+syntax do: {"do":"drop"}
+syntax class: {"do":"add"}
+syntax class: {"do":"add","class":1,"fields":{}}
+syntax class: {"do":"remove","id":0}
+syntax id: {"do":"remove","class":"room"}
+syntax id: {"do":"remove","class":"room","id":0}
+syntax id: {"do":"remove","class":"room","id":1.0}
+syntax id: {"do":"remove","class":"room","id":1000000001}
+syntax id: {"do":"alter","class":"room","id":"1","fields":{}}
+syntax id: {"do":"assign","class":"room","id":-1,"values":{}}
+syntax fields: {"do":"add","class":"room"}
+syntax fields: {"do":"alter","class":"room","id":1}
+syntax fields: {"do":"alter","class":"room","id":1,"fields":[]}
+syntax fields: {"do":"add","class":"room","fields":{"capacity":null}}
+syntax fields: {"do":"add","class":"room","fields":{"capacity":1.5},"values":1}
+syntax values: {"do":"assign","class":"lesson","id":1}
+syntax values: {"do":"assign","class":"lesson","id":1,"values":[]}
+syntax values: {"do":"assign","class":"lesson","id":1,"values":{"slot":0}}
+syntax values: {"do":"add","class":"room","fields":{},"values":{"slot":"1"}}
+syntax values: {"do":"add","class":"room","fields":{},"values":null}
+syntax rule: {"do":"weight","weight":1}
+syntax rule: {"do":"weight","rule":1}
+syntax weight: {"do":"weight","rule":"room_size"}
+syntax weight: {"do":"weight","rule":"room_size","weight":1000001}
+syntax weight: {"do":"weight","rule":"room_size","weight":-1,"x":1}
+syntax member: {"do":"add","class":"room","id":1,"fields":{"capacity":1}}
+syntax member: {"do":"remove","class":"room","id":1,"fields":{}}
+syntax member: {"do":"remove","class":"room","id":1,"values":1}
+syntax member: {"do":"alter","class":"room","id":1,"fields":{},"values":{}}
+syntax member: {"do":"assign","class":"room","id":1,"fields":{},"values":{}}
+syntax member: {"do":"weight","rule":"room_size","weight":3,"class":"room"}
+add: {"do":"add","class":"room","fields":{"capacity":5}}
+add: {"do":"add","class":"lesson","fields":{"size":5},"values":{"slot":null,"room":1}}
+remove: {"do":"remove","class":"room","id":9}
+remove: {"do":"remove","class":"room","id":0,"id":1000000000}
+alter: {"do":"alter","class":"room","id":1,"fields":{}}
+assign: {"do":"assign","class":"lesson","id":1,"values":{"slot":99}}
+weight: {"do":"weight","rule":"rum","weight":1000000}"#;
 
-/// Lines, and what they are read as.
-const LINES: &[(&[u8], &str)] = &[
+/// Other lines: an empty one, lines that end in a carriage return, and lines that aren't UTF-8; and what they are
+/// read as.
+const OTHERS: [(&[u8], &str); 5] = [
     (b"", "syntax json"),
     (b"\r", "syntax json"),
-    (b"{", "syntax json"),
     (b"\xff", "syntax json"),
     (
         b"{\"do\":\"remove\",\"class\":\"\xff\",\"id\":1}",
         "syntax json",
     ),
-    (b"[]", "syntax object"),
-    (b"null", "syntax object"),
-    (b"7", "syntax object"),
-    (br#"{"class":"room"}"#, "syntax do"),
-    (br#"{"do":1,"class":"room"}"#, "syntax do"),
-    (br#"{"do":"drop"}"#, "syntax do"),
-    (br#"{"do":"add"}"#, "syntax class"),
-    (br#"{"do":"add","class":1,"fields":{}}"#, "syntax class"),
-    (br#"{"do":"remove","id":0}"#, "syntax class"),
-    (br#"{"do":"remove","class":"room"}"#, "syntax id"),
-    (br#"{"do":"remove","class":"room","id":0}"#, "syntax id"),
-    (br#"{"do":"remove","class":"room","id":1.0}"#, "syntax id"),
-    (
-        br#"{"do":"remove","class":"room","id":1000000001}"#,
-        "syntax id",
-    ),
-    (
-        br#"{"do":"alter","class":"room","id":"1","fields":{}}"#,
-        "syntax id",
-    ),
-    (
-        br#"{"do":"assign","class":"room","id":-1,"values":{}}"#,
-        "syntax id",
-    ),
-    (br#"{"do":"add","class":"room"}"#, "syntax fields"),
-    (br#"{"do":"alter","class":"room","id":1}"#, "syntax fields"),
-    (
-        br#"{"do":"alter","class":"room","id":1,"fields":[]}"#,
-        "syntax fields",
-    ),
-    (
-        br#"{"do":"add","class":"room","fields":{"capacity":null}}"#,
-        "syntax fields",
-    ),
-    (
-        br#"{"do":"add","class":"room","fields":{"capacity":1.5},"values":1}"#,
-        "syntax fields",
-    ),
-    (
-        br#"{"do":"assign","class":"lesson","id":1}"#,
-        "syntax values",
-    ),
-    (
-        br#"{"do":"assign","class":"lesson","id":1,"values":[]}"#,
-        "syntax values",
-    ),
-    (
-        br#"{"do":"assign","class":"lesson","id":1,"values":{"slot":0}}"#,
-        "syntax values",
-    ),
-    (
-        br#"{"do":"add","class":"room","fields":{},"values":{"slot":"1"}}"#,
-        "syntax values",
-    ),
-    (
-        br#"{"do":"add","class":"room","fields":{},"values":null}"#,
-        "syntax values",
-    ),
-    (br#"{"do":"weight","weight":1}"#, "syntax rule"),
-    (br#"{"do":"weight","rule":1}"#, "syntax rule"),
-    (br#"{"do":"weight","rule":"room_size"}"#, "syntax weight"),
-    (
-        br#"{"do":"weight","rule":"room_size","weight":1000001}"#,
-        "syntax weight",
-    ),
-    (
-        br#"{"do":"weight","rule":"room_size","weight":-1,"x":1}"#,
-        "syntax weight",
-    ),
-    (
-        br#"{"do":"add","class":"room","id":1,"fields":{"capacity":1}}"#,
-        "syntax member",
-    ),
-    (
-        br#"{"do":"remove","class":"room","id":1,"fields":{}}"#,
-        "syntax member",
-    ),
-    (
-        br#"{"do":"remove","class":"room","id":1,"values":1}"#,
-        "syntax member",
-    ),
-    (
-        br#"{"do":"alter","class":"room","id":1,"fields":{},"values":{}}"#,
-        "syntax member",
-    ),
-    (
-        br#"{"do":"assign","class":"room","id":1,"fields":{},"values":{}}"#,
-        "syntax member",
-    ),
-    (
-        br#"{"do":"weight","rule":"room_size","weight":3,"class":"room"}"#,
-        "syntax member",
-    ),
-    (
-        br#"{"do":"add","class":"room","fields":{"capacity":5}}"#,
-        "add",
-    ),
     (
         b" {\"do\":\"add\",\"class\":\"room\",\"fields\":{}}\r",
         "add",
     ),
-    (
-        br#"{"do":"add","class":"lesson","fields":{"size":5},"values":{"slot":null,"room":1}}"#,
-        "add",
-    ),
-    (br#"{"do":"remove","class":"room","id":9}"#, "remove"),
-    (
-        br#"{"do":"remove","class":"room","id":0,"id":1000000000}"#,
-        "remove",
-    ),
-    (
-        br#"{"do":"alter","class":"room","id":1,"fields":{}}"#,
-        "alter",
-    ),
-    (
-        br#"{"do":"assign","class":"lesson","id":1,"values":{"slot":99}}"#,
-        "assign",
-    ),
-    (
-        br#"{"do":"weight","rule":"rum","weight":1000000}"#,
-        "weight",
-    ),
 ];
+
+/// What a field of this name is given, a number or a name; or what a variable of this name is given.
+enum Part {
+    Num(&'static str, i64),
+    Name(&'static str, &'static str),
+    Value(&'static str, Option<u32>),
+}
+
+/// A line that is a change, and what it says: the class with the id, the rule with its weight, how many fields it
+/// has, and the fields and then the variables, in the order of their names.
+struct Said {
+    line: &'static str,
+    class: &'static str,
+    id: u32,
+    rule: &'static str,
+    weight: u32,
+    fields: usize,
+    parts: &'static [Part],
+}
+
+/// Lines that are changes.
+const CHANGES: &[Said] = &[
+    Said {
+        line: r#"{"values":{"slot":null,"room":7},"fields":{"size":-5,"group":"G","a":"1"},"class":"lesson","do":"add"}"#,
+        class: "lesson",
+        id: 0,
+        rule: "",
+        weight: 0,
+        fields: 3,
+        parts: &[
+            Part::Name("a", "1"),
+            Part::Name("group", "G"),
+            Part::Num("size", -5),
+            Part::Value("room", Some(7)),
+            Part::Value("slot", None),
+        ],
+    },
+    Said {
+        line: r#"{"do":"remove","class":"room","id":9}"#,
+        class: "room",
+        id: 9,
+        rule: "",
+        weight: 0,
+        fields: 0,
+        parts: &[],
+    },
+    Said {
+        line: r#"{"do":"alter","class":"timeslot","id":2,"fields":{"start":580,"end":640,"start":590}}"#,
+        class: "timeslot",
+        id: 2,
+        rule: "",
+        weight: 0,
+        fields: 2,
+        parts: &[Part::Num("end", 640), Part::Num("start", 590)],
+    },
+    Said {
+        line: r#"{"do":"assign","class":"lesson","id":1,"values":{"slot":1000000000}}"#,
+        class: "lesson",
+        id: 1,
+        rule: "",
+        weight: 0,
+        fields: 0,
+        parts: &[Part::Value("slot", Some(1_000_000_000))],
+    },
+    Said {
+        line: r#"{"do":"weight","rule":"room_size","weight":3}"#,
+        class: "",
+        id: 0,
+        rule: "room_size",
+        weight: 3,
+        fields: 0,
+        parts: &[],
+    },
+];
+
+/// Whether the field has this name and is given this.
+fn is_field(field: &FieldItem, part: &Part) -> bool {
+    let name = field.name.as_slice();
+    match (part, &field.item) {
+        (Part::Num(wanted, number), Item::Num(given)) => {
+            name == wanted.as_bytes() && given == number
+        }
+        (Part::Name(wanted, text), Item::Name(given)) => {
+            name == wanted.as_bytes() && given.as_slice() == text.as_bytes()
+        }
+        _ => false,
+    }
+}
+
+/// Whether the variable has this name and is given this.
+fn is_value(value: &ValueItem, part: &Part) -> bool {
+    match part {
+        Part::Value(wanted, given) => {
+            value.name.as_slice() == wanted.as_bytes() && value.value == *given
+        }
+        _ => false,
+    }
+}
+
+/// Whether the fields are given the first of these parts.
+fn are_fields(fields: &[FieldItem], parts: &[Part]) -> bool {
+    for place in 0..fields.len() {
+        if place >= parts.len() || !is_field(&fields[place], &parts[place]) {
+            return false;
+        }
+    }
+    true
+}
+
+/// Whether the variables are given the last of these parts, those behind so many fields.
+fn are_values(values: &[ValueItem], parts: &[Part], fields: usize) -> bool {
+    for place in 0..values.len() {
+        match parts.get(fields.saturating_add(place)) {
+            Some(part) if is_value(&values[place], part) => {}
+            _ => return false,
+        }
+    }
+    fields.saturating_add(values.len()) == parts.len()
+}
+
+/// Whether the change names this class and this rule.
+fn is_of(change: &Change, said: &Said) -> bool {
+    change.class.as_slice() == said.class.as_bytes()
+        && change.rule.as_slice() == said.rule.as_bytes()
+}
+
+/// Whether the change has this id, this weight and so many fields.
+fn has_numbers(change: &Change, said: &Said) -> bool {
+    change.id == said.id && change.weight == said.weight && change.fields.len() == said.fields
+}
+
+/// Whether the change gives these parts.
+fn gives_parts(change: &Change, said: &Said) -> bool {
+    are_fields(change.fields.as_slice(), said.parts)
+        && are_values(change.values.as_slice(), said.parts, said.fields)
+}
+
+/// Whether the change says this.
+fn is_said(change: &Change, said: &Said) -> bool {
+    is_of(change, said) && has_numbers(change, said) && gives_parts(change, said)
+}
+
+/// Whether the line was read as these words, or where a change is due as one that says this.
+fn is_due(body: &Body, words: &str, said: Option<&Said>) -> bool {
+    match (said, body) {
+        (None, _) => body_words(body) == words,
+        (Some(said), Body::Do(change)) => is_said(change, said),
+        _ => false,
+    }
+}
+
+/// Whether the line is read as these words, or where a change is due as one that says this.
+fn is_read(alloc: Global, line: &[u8], words: &str, said: Option<&Said>) -> bool {
+    match body_of(alloc, line) {
+        Ok(body) => is_due(&body, words, said),
+        Err(_) => false,
+    }
+}
+
+/// Whether the line is read as the words before it.
+fn is_row_read(alloc: Global, row: &str) -> bool {
+    match row.split_once(": ") {
+        Some((words, line)) => is_read(alloc, line.as_bytes(), words, None),
+        None => false,
+    }
+}
+
+/// The first line of text that isn't read as it should be.
+fn first_misread(alloc: Global) -> Option<usize> {
+    let mut place = 0usize;
+    for row in LINES.lines() {
+        if !is_row_read(alloc, row) {
+            return Some(place);
+        }
+        place = place.saturating_add(1);
+    }
+    None
+}
+
+/// The first of the other lines that isn't read as it should be.
+fn first_other(alloc: Global) -> Option<usize> {
+    for place in 0..OTHERS.len() {
+        let (line, words) = OTHERS[place];
+        if !is_read(alloc, line, words, None) {
+            return Some(place);
+        }
+    }
+    None
+}
 
 #[test]
 fn finds_the_first_fault_of_a_line(rt: HostRuntime) -> Result<(), Fail> {
-    for (line, want) in LINES {
-        try_line(&rt, rt.alloc(), line, want)?;
-    }
+    expect_none(&rt, first_misread(rt.alloc()));
+    expect_none(&rt, first_other(rt.alloc()));
     Ok(())
 }
 
-/// A text as it is printed.
-fn word(text: &Text) -> &str {
-    str::from_utf8(text.as_slice()).unwrap_or("?")
-}
-
-/// Adds a field's name and what it is given.
-fn add_field(out: &mut String, field: &FieldItem) -> Result<(), AllocError> {
-    let name = word(&field.name);
-    match &field.item {
-        Item::Num(number) => write!(out, " {name}={number}"),
-        Item::Name(given) => write!(out, " {name}={:?}", word(given)),
+/// The first line that isn't a change that says what it should.
+fn first_unsaid(alloc: Global) -> Option<usize> {
+    for place in 0..CHANGES.len() {
+        let said = &CHANGES[place];
+        if !is_read(alloc, said.line.as_bytes(), "", Some(said)) {
+            return Some(place);
+        }
     }
-}
-
-/// Adds the fields of a change.
-fn add_fields(out: &mut String, fields: &[FieldItem]) -> Result<(), AllocError> {
-    for field in fields {
-        add_field(out, field)?;
-    }
-    Ok(())
-}
-
-/// Adds a variable's name and what it is given.
-fn add_value(out: &mut String, value: &ValueItem) -> Result<(), AllocError> {
-    let name = word(&value.name);
-    match value.value {
-        Some(id) => write!(out, " {name}->{id}"),
-        None => write!(out, " {name}->-"),
-    }
-}
-
-/// Adds the variables of a change.
-fn add_values(out: &mut String, values: &[ValueItem]) -> Result<(), AllocError> {
-    for value in values {
-        add_value(out, value)?;
-    }
-    Ok(())
-}
-
-/// Adds a change in words: the class with the id, the fields, the variables, the rule with its weight.
-fn add_change(out: &mut String, change: &Change) -> Result<(), AllocError> {
-    write!(out, "{}#{}", word(&change.class), change.id)?;
-    add_fields(out, change.fields.as_slice())?;
-    add_values(out, change.values.as_slice())?;
-    write!(out, " {}:{}", word(&change.rule), change.weight)
-}
-
-/// Lines that are changes, and these in words.
-const CHANGES: &[(&[u8], &str)] = &[
-    (
-        br#"{"values":{"slot":null,"room":7},"fields":{"size":-5,"group":"G","a":"1"},"class":"lesson","do":"add"}"#,
-        "lesson#0 a=\"1\" group=\"G\" size=-5 room->7 slot->- :0",
-    ),
-    (br#"{"do":"remove","class":"room","id":9}"#, "room#9 :0"),
-    (
-        br#"{"do":"alter","class":"timeslot","id":2,"fields":{"start":580,"end":640,"start":590}}"#,
-        "timeslot#2 end=640 start=590 :0",
-    ),
-    (
-        br#"{"do":"assign","class":"lesson","id":1,"values":{"slot":1000000000}}"#,
-        "lesson#1 slot->1000000000 :0",
-    ),
-    (
-        br#"{"do":"weight","rule":"room_size","weight":3}"#,
-        "#0 room_size:3",
-    ),
-];
-
-/// Fails where these aren't the words of the change.
-fn expect_words(rt: &impl Abort, alloc: Global, change: &Change, want: &str) -> Result<(), Fail> {
-    let mut words = String::new(alloc);
-    add_change(&mut words, change)?;
-    assert_eq!(rt; words.as_str(), want);
-    Ok(())
-}
-
-/// Fails where the line isn't this change.
-fn try_change(rt: &impl Abort, alloc: Global, line: &[u8], want: &str) -> Result<(), Fail> {
-    match body_of(alloc, line)? {
-        Body::Do(change) => expect_words(rt, alloc, &change, want),
-        _ => Err("no change".into()),
-    }
+    None
 }
 
 #[test]
 fn reads_what_a_change_says(rt: HostRuntime) -> Result<(), Fail> {
-    for (line, want) in CHANGES {
-        try_change(&rt, rt.alloc(), line, want)?;
-    }
+    expect_none(&rt, first_unsaid(rt.alloc()));
     Ok(())
 }
 
-/// The next line of a feed, with its number, in words.
-fn next_words(feed: &mut Feed, src: &mut MemSource) -> (u32, &'static str)
-    requires { feed.old.ended ≡ false }
-{
-    match feed.next_line(src) {
+/// The words of why a feed ended early.
+fn fault_words(fault: FeedFault) -> &'static str {
+    match fault {
+        FeedFault::Memory => "memory",
+        FeedFault::ReadFault => "read_fault",
+        FeedFault::Overrun => "overrun",
+    }
+}
+
+/// What came next in a feed: a line by its number, or with the number 0 an end, in words.
+fn words_of(next: &Result<Option<Post>, FeedFault>) -> (u32, &'static str) {
+    match next {
         Ok(Some(post)) => (post.line, body_words(&post.body)),
         Ok(None) => (0, "end"),
-        Err(FeedFault::Memory) => (0, "memory"),
-        Err(FeedFault::ReadFault) => (0, "read_fault"),
-        Err(FeedFault::Overrun) => (0, "overrun"),
+        Err(fault) => (0, fault_words(*fault)),
     }
 }
 
-/// Fails where the next line of the feed hasn't this number and these words.
-fn try_next(rt: &impl Abort, feed: &mut Feed, src: &mut MemSource, line: usize, want: &str)
-    requires { feed.old.ended ≡ false }
-{
-    let (number, words) = next_words(feed, src);
-    assert_eq!(rt; number as usize, line);
-    assert_eq!(rt; words, want);
-}
-
-/// Fails where the feed doesn't end so.
-fn try_end(rt: &impl Abort, feed: &mut Feed, src: &mut MemSource, want: &str) {
-    assert!(rt; !feed.ended());
-    if !feed.ended() {
-        assert_eq!(rt; next_words(feed, src), (0, want));
+/// The next line of a feed, by its number, or with the number 0 its end, in words.
+fn next_words(feed: &mut Feed, src: &mut MemSource) -> (u32, &'static str) {
+    if feed.ended() {
+        return (0, "ended before");
     }
-    assert!(rt; feed.ended());
+    let next = feed.next_line(src);
+    words_of(&next)
 }
 
-/// Fails where the next lines of the feed don't have these words.
-fn try_lines(rt: &impl Abort, feed: &mut Feed, src: &mut MemSource, want: &[&str]) {
-    for place in 0..want.len() {
-        if !feed.ended() {
-            try_next(rt, feed, src, place + 1, want[place]);
-        }
-    }
-}
-
-/// Fails where a feed of the source doesn't have lines of these words, and then this end.
-fn try_feed(rt: &impl Abort, alloc: Global, mut src: MemSource, want: &[&str], last: &str) {
-    let mut feed = Feed::new(alloc);
-    try_lines(rt, &mut feed, &mut src, want);
-    try_end(rt, &mut feed, &mut src, last);
-}
-
-/// Fails where the next lines of the feed, so many, don't have these words.
-fn try_same_lines(rt: &impl Abort, feed: &mut Feed, src: &mut MemSource, count: usize, want: &str) {
-    for place in 0..count {
-        if !feed.ended() {
-            try_next(rt, feed, src, place + 1, want);
-        }
-    }
-}
-
-/// Fails where a feed of the source doesn't have so many lines of these words, and then this end.
-fn try_same(
-    rt: &impl Abort,
-    alloc: Global,
-    mut src: MemSource,
-    count: usize,
-    want: &str,
-    last: &str,
-) {
-    let mut feed = Feed::new(alloc);
-    try_same_lines(rt, &mut feed, &mut src, count, want);
-    try_end(rt, &mut feed, &mut src, last);
+/// Whether the next line of a feed has this number and these words.
+fn is_next(feed: &mut Feed, src: &mut MemSource, line: usize, words: &str) -> bool {
+    let (number, given) = next_words(feed, src);
+    number as usize == line && given == words
 }
 
 /// A feed of six lines.
-const SIX: &[u8] = br#"{"do":"add","class":"room","fields":{"capacity":5}}
+const SIX: &str = r#"{"do":"add","class":"room","fields":{"capacity":5}}
 {"do":"add","class":"room","fields":{"capacity":5}}
 {"do":"remove","class":"room","id":9}
 {"do":"add","class":"rum","fields":{}}
 {"do":"alter","class":"room","id":2,"fields":{"size":1}}
 {"#;
 
-/// A source of the six lines that gives at most so many bytes in a take, and fails at these takes.
-fn source_of_six(alloc: Global, most: usize, fail: &[u32]) -> Result<MemSource, AllocError>
-    requires { 1 ≤ most }
-{
-    let fail = Vec::from_slice(alloc, fail)?;
-    let bytes = Vec::from_slice(alloc, SIX)?;
-    Ok(MemSource::new(bytes, most, fail))
-}
-
-/// Fails where a feed of the six lines that fails at these takes doesn't have lines of these words, and then this end.
-fn try_six(
-    rt: &impl Abort,
-    alloc: Global,
-    most: usize,
-    fail: &[u32],
-    want: &[&str],
-    last: &str,
-) -> Result<(), Fail>
-    requires { 1 ≤ most }
-{
-    let src = source_of_six(alloc, most, fail)?;
-    try_feed(rt, alloc, src, want, last);
-    Ok(())
-}
-
 /// What the six lines are read as.
 const SIX_WORDS: [&str; 6] = ["add", "add", "remove", "add", "alter", "syntax json"];
 
-#[test]
-fn gives_each_line_once_however_the_bytes_come(rt: HostRuntime) -> Result<(), Fail> {
-    for most in [1, 3, 50, 1_000] {
-        try_six(&rt, rt.alloc(), most, &[], &SIX_WORDS, "end")?;
+/// A take that no source comes to.
+const NEVER: u32 = 1_000_000;
+
+/// A source: so many times a byte, a text, and the six lines behind them if they are to be there. It gives at most
+/// so many bytes in a take, and fails at the take of this number.
+struct Bytes(u8, usize, &'static str, bool, usize, u32);
+
+/// What a feed gives: so many lines of these words, then so many of the six, and then this end.
+struct Lines(usize, &'static str, usize, &'static str);
+
+/// Sources, and what feeds of them give.
+const FEEDS: &[(Bytes, Lines)] = &[
+    // Each line is given once, however the bytes come.
+    (Bytes(0, 0, "", true, 1, NEVER), Lines(0, "", 6, "end")),
+    (Bytes(0, 0, "", true, 3, NEVER), Lines(0, "", 6, "end")),
+    (Bytes(0, 0, "", true, 50, NEVER), Lines(0, "", 6, "end")),
+    (Bytes(0, 0, "", true, 1_000, NEVER), Lines(0, "", 6, "end")),
+    // Of three bytes a take the first 17 hold no whole line, and the eighteenth the first line's end.
+    (Bytes(0, 0, "", true, 3, 0), Lines(0, "", 0, "read_fault")),
+    (Bytes(0, 0, "", true, 3, 17), Lines(0, "", 0, "read_fault")),
+    (Bytes(0, 0, "", true, 3, 18), Lines(0, "", 1, "read_fault")),
+    (Bytes(0, 0, "", true, 3, 34), Lines(0, "", 1, "read_fault")),
+    (Bytes(0, 0, "", true, 3, 35), Lines(0, "", 2, "read_fault")),
+    // A long line is refused, and those behind it are given.
+    (
+        Bytes(b'x', 65_537, "\n", true, 5_000, NEVER),
+        Lines(1, "long_line", 6, "end"),
+    ),
+    (
+        Bytes(b'x', 65_536, "\n", true, 5_000, NEVER),
+        Lines(1, "syntax json", 6, "end"),
+    ),
+    (
+        Bytes(b'x', 500_000, "\n", true, 5_000, NEVER),
+        Lines(1, "long_line", 6, "end"),
+    ),
+    // 4,096 empty lines are taken, and no more.
+    (
+        Bytes(b'\n', 4_096, "", false, 5_000, NEVER),
+        Lines(4_096, "syntax json", 0, "end"),
+    ),
+    (
+        Bytes(b'\n', 4_096, "x", false, 5_000, NEVER),
+        Lines(4_096, "syntax json", 0, "overrun"),
+    ),
+];
+
+/// Writes the bytes.
+fn push_bytes(out: &mut Vec<u8>, bytes: &Bytes) -> Result<(), AllocError> {
+    let six = if bytes.3 { SIX } else { "" };
+    out.resize(bytes.1, bytes.0)?;
+    out.extend_from_slice(bytes.2.as_bytes())?;
+    out.extend_from_slice(six.as_bytes())
+}
+
+/// The bytes as a list.
+fn list_of(alloc: Global, bytes: &Bytes) -> Result<Vec<u8>, AllocError> {
+    let mut out = Vec::new(alloc);
+    push_bytes(&mut out, bytes)?;
+    Ok(out)
+}
+
+/// The source of the bytes.
+fn source(alloc: Global, bytes: &Bytes) -> Result<MemSource, AllocError> {
+    let fail = Vec::from_slice(alloc, &[bytes.5])?;
+    let list = list_of(alloc, bytes)?;
+    Ok(MemSource::new(list, bytes.4.max(1), fail))
+}
+
+/// The words of a line that is due, by its place from 0.
+fn words_at(lines: &Lines, place: usize) -> &'static str {
+    if place < lines.0 {
+        return lines.1;
     }
-    Ok(())
-}
-
-/// Of three bytes a take the first 17 hold no whole line, and the eighteenth the first line's end.
-#[test]
-fn ends_where_the_source_fails(rt: HostRuntime) -> Result<(), Fail> {
-    for (take, lines) in [(0, 0), (17, 0), (18, 1), (34, 1), (35, 2)] {
-        try_six(
-            &rt,
-            rt.alloc(),
-            3,
-            &[take],
-            &["add", "add"][..lines],
-            "read_fault",
-        )?;
+    match SIX_WORDS.get(place - lines.0) {
+        Some(words) => words,
+        None => "",
     }
-    Ok(())
 }
 
-/// Writes a line of so many bytes, and the six lines behind it.
-fn push_long(out: &mut Vec<u8>, count: usize) -> Result<(), AllocError> {
-    out.resize(count, b'x')?;
-    out.extend_from_slice(b"\n")?;
-    out.extend_from_slice(SIX)?;
-    Ok(())
-}
-
-/// A source of these bytes that gives at most 5,000 of them in a take.
-fn source(alloc: Global, bytes: Vec<u8>) -> MemSource {
-    MemSource::new(bytes, 5_000, Vec::new(alloc))
-}
-
-/// Fails where a line of so many bytes isn't read so, or the six lines behind it aren't read.
-fn try_long(rt: &impl Abort, alloc: Global, count: usize, words: &str) -> Result<(), Fail> {
-    let mut bytes = Vec::new(alloc);
-    push_long(&mut bytes, count)?;
-    let want = [words, "add", "add", "remove", "add", "alter", "syntax json"];
-    try_feed(rt, alloc, source(alloc, bytes), &want, "end");
-    Ok(())
-}
-
-#[test]
-fn refuses_a_long_line_and_goes_on_behind_it(rt: HostRuntime) -> Result<(), Fail> {
-    for (count, words) in [
-        (65_537, "long_line"),
-        (65_536, "syntax json"),
-        (500_000, "long_line"),
-    ] {
-        try_long(&rt, rt.alloc(), count, words)?;
+/// Whether the feed gives these lines, and then this end.
+fn gives(feed: &mut Feed, src: &mut MemSource, lines: &Lines) -> bool {
+    for place in 0..lines.0.saturating_add(lines.2) {
+        if !is_next(feed, src, place.saturating_add(1), words_at(lines, place)) {
+            return false;
+        }
     }
-    Ok(())
+    is_next(feed, src, 0, lines.3) && feed.ended()
 }
 
-/// Writes 4,096 empty lines, and these bytes behind them.
-fn push_empty(out: &mut Vec<u8>, more: &[u8]) -> Result<(), AllocError> {
-    out.resize(4_096, b'\n')?;
-    out.extend_from_slice(more)?;
-    Ok(())
+/// Whether a feed of the source gives these lines.
+fn is_fed(alloc: Global, src: &mut MemSource, lines: &Lines) -> bool {
+    let mut feed = Feed::new(alloc);
+    gives(&mut feed, src, lines)
 }
 
-/// Fails where the feed of 4,096 empty lines and these bytes behind them doesn't give the lines, and then this end.
-fn try_empty(rt: &impl Abort, alloc: Global, more: &[u8], last: &str) -> Result<(), Fail> {
-    let mut bytes = Vec::new(alloc);
-    push_empty(&mut bytes, more)?;
-    try_same(rt, alloc, source(alloc, bytes), 4_096, "syntax json", last);
-    Ok(())
+/// Whether a feed of the bytes gives these lines.
+fn is_fed_by(alloc: Global, bytes: &Bytes, lines: &Lines) -> bool {
+    match source(alloc, bytes) {
+        Ok(mut src) => is_fed(alloc, &mut src, lines),
+        Err(_) => false,
+    }
+}
+
+/// The first feed that doesn't give what it should.
+fn first_misfed(alloc: Global) -> Option<usize> {
+    for place in 0..FEEDS.len() {
+        let (bytes, lines) = &FEEDS[place];
+        if !is_fed_by(alloc, bytes, lines) {
+            return Some(place);
+        }
+    }
+    None
 }
 
 #[test]
-fn takes_4096_empty_lines_and_no_more(rt: HostRuntime) -> Result<(), Fail> {
-    for (more, last) in [(b"".as_slice(), "end"), (b"x", "overrun")] {
-        try_empty(&rt, rt.alloc(), more, last)?;
-    }
+fn gives_each_line_once_and_then_the_end(rt: HostRuntime) -> Result<(), Fail> {
+    expect_none(&rt, first_misfed(rt.alloc()));
     Ok(())
 }

@@ -1,10 +1,15 @@
 //! Changes at the limits of facts and of combinations of values.
 
-use super::made::{Sketch, World};
-use plan_changes::{ChangeFault, Deed};
-use plan_facts::{List, Memory, Names, Plan, PlanFault, Raw, Schema};
+ghost use Rattle.std.specs.Prelude.{IfOk, IfSome};
+ghost use Rattle.plan_changes.specs.Fits.{IsOfSchema};
+
+use super::cases::{Case, first_wrong};
+use super::made::{World, world_of};
+use super::refused::Answer;
+use crate::tests::expect_none;
+use plan_changes::ChangeFault;
+use plan_facts::{List, Memory, Plan, PlanFault, Raw, Schema};
 use std::alloc::Global;
-use std::process::Abort;
 use std::test::Fail;
 use test_plans::{ClassSketch, VarSketch, schema_of};
 
@@ -18,6 +23,38 @@ const CLASSES: &[ClassSketch] = &[
         &[VarSketch::Var("slot", 0), VarSketch::Nullable("room", 1)],
     ),
     ClassSketch("block", &[], &[]),
+];
+
+/// A line that makes a slot.
+const SLOT: &str = r#"{"do":"add","class":"slot","fields":{}}"#;
+
+/// A line that makes a room.
+const ROOM: &str = r#"{"do":"add","class":"room","fields":{}}"#;
+
+/// A line that makes a block.
+const BLOCK: &str = r#"{"do":"add","class":"block","fields":{}}"#;
+
+/// There are more than 65,536 combinations of the values of lessons.
+const WIDE: ChangeFault = ChangeFault::RangeProduct { class: 2 };
+
+/// Values at the limit of combinations, of which there are at most 65,536; then facts at the limit of those
+/// that are ever made, at most 100,000.
+const LIMITS: &[Case] = &[
+    Case::Crowded([256, 254, 0, 0], ROOM, Answer::Taken),
+    Case::Crowded([256, 255, 0, 0], ROOM, Answer::Refused(WIDE)),
+    Case::Crowded([256, 255, 0, 0], SLOT, Answer::Refused(WIDE)),
+    Case::Crowded([256, 255, 0, 0], BLOCK, Answer::Taken),
+    Case::Crowded([0, 0, 0, 99_999], BLOCK, Answer::Taken),
+    Case::Crowded(
+        [0, 0, 0, 100_000],
+        BLOCK,
+        Answer::Refused(ChangeFault::TooManyFacts),
+    ),
+    Case::Crowded(
+        [256, 255, 0, 99_489],
+        ROOM,
+        Answer::Refused(ChangeFault::TooManyFacts),
+    ),
 ];
 
 /// So many records without fields.
@@ -34,81 +71,51 @@ fn records(alloc: Global, count: u32) -> Result<List<Raw>, Memory> {
     Ok(records)
 }
 
-/// So many slots, rooms and blocks.
-#[derive(Clone, Copy)]
-struct Sizes(u32, u32, u32);
+/// Adds a list for each class, of so many records.
+fn push_records(alloc: Global, lists: &mut List<List<Raw>>, counts: &[u32]) -> Result<(), Memory> {
+    for count in counts {
+        lists.push(records(alloc, *count)?)?;
+    }
+    Ok(())
+}
 
-/// The plan of so many slots, rooms and blocks.
-fn plan(alloc: Global, schema: &Schema, sizes: Sizes) -> Result<Plan, PlanFault> {
+/// A list for each class, of so many records.
+fn lists(alloc: Global, counts: [u32; 4]) -> Result<List<List<Raw>>, Memory> {
     let mut lists = List::new(alloc);
-    for count in [sizes.0, sizes.1, 0, sizes.2] {
-        lists.push(records(alloc, count)?)?;
+    push_records(alloc, &mut lists, &counts)?;
+    Ok(lists)
+}
+
+/// The plan of so many facts of each class.
+#[tactic(auto, using(plan_changes::proofs::Schemas::made_schema))]
+fn plan(alloc: Global, schema: &Schema, counts: [u32; 4]) -> Result<Plan, PlanFault>
+    ensures { IfOk result (λ plan. IsOfSchema schema.now plan) }
+{
+    Plan::of(alloc, schema, lists(alloc, counts)?)
+}
+
+/// So many facts of each class of the schema; none at want of memory.
+fn crowd_of(alloc: Global, schema: Schema, counts: [u32; 4]) -> Option<World>
+    ensures { IfSome result (λ world. IsOfSchema world.schema world.plan) }
+{
+    match plan(alloc, &schema, counts) {
+        Ok(plan) => Some(world_of(alloc, schema, plan)),
+        Err(_) => None,
     }
-    Plan::of(alloc, schema, lists)
 }
 
-/// So many slots, rooms and blocks, and no names.
-fn world_of(alloc: Global, sizes: Sizes) -> Result<World, Fail> {
-    let schema = schema_of(alloc, CLASSES)?;
-    let plan = plan(alloc, &schema, sizes)?;
-    Ok(World {
-        alloc,
-        schema,
-        plan,
-        names: Names::new(alloc),
-    })
+/// So many facts of each class; none at want of memory.
+pub(super) fn crowd(alloc: Global, counts: [u32; 4]) -> Option<World>
+    ensures { IfSome result (λ world. IsOfSchema world.schema world.plan) }
+{
+    match schema_of(alloc, CLASSES) {
+        Ok(schema) => crowd_of(alloc, schema, counts),
+        Err(_) => None,
+    }
 }
-
-/// How many slots, rooms and blocks there are, a class, and what a new fact of it is refused for; none where it may be made.
-#[derive(Clone, Copy)]
-struct Row(Sizes, &'static str, Option<ChangeFault>);
-
-/// Fails where a new fact isn't refused for this.
-fn try_row(rt: &impl Abort, alloc: Global, row: Row) -> Result<(), Fail> {
-    let world = world_of(alloc, row.0)?;
-    let sketch = Sketch(Deed::Add, row.1, 0, &[], &[]);
-    assert_eq!(rt; world.fault(rt, sketch), row.2);
-    Ok(())
-}
-
-/// There are more than 65,536 combinations of the values of lessons.
-const WIDE: Option<ChangeFault> = Some(ChangeFault::RangeProduct { class: 2 });
-
-/// Values at the limit of combinations.
-const COMBINATIONS: &[Row] = &[
-    Row(Sizes(256, 254, 0), "room", None),
-    Row(Sizes(256, 255, 0), "room", WIDE),
-    Row(Sizes(256, 255, 0), "slot", WIDE),
-    Row(Sizes(256, 255, 0), "block", None),
-];
 
 #[test]
-fn combinations_are_at_most_65536(rt: HostRuntime) -> Result<(), Fail> {
-    for row in COMBINATIONS {
-        try_row(&rt, rt.alloc(), *row)?;
-    }
-    Ok(())
-}
-
-/// Facts at the limit of those that are ever made.
-const FACTS: &[Row] = &[
-    Row(Sizes(0, 0, 99_999), "block", None),
-    Row(
-        Sizes(0, 0, 100_000),
-        "block",
-        Some(ChangeFault::TooManyFacts),
-    ),
-    Row(
-        Sizes(256, 255, 99_489),
-        "room",
-        Some(ChangeFault::TooManyFacts),
-    ),
-];
-
-#[test]
-fn facts_ever_made_are_at_most_100000(rt: HostRuntime) -> Result<(), Fail> {
-    for row in FACTS {
-        try_row(&rt, rt.alloc(), *row)?;
-    }
+fn combinations_are_at_most_65536_and_facts_100000(rt: HostRuntime) -> Result<(), Fail> {
+    expect_none(&rt, first_wrong(rt.alloc(), LIMITS));
     Ok(())
 }

@@ -1,187 +1,113 @@
 //! What changes make of a timetable.
 
-ghost use Rattle.std.specs.Prelude.{◌≤◌};
-ghost use Rattle.plan_facts.specs.Limits.{weight_limit};
 ghost use Rattle.plan_changes.specs.Fits.{IsOfSchema};
+ghost use Rattle.plan_changes.specs.Performed.{MayPerform};
 
-use super::made::{Given, LESSON, ROOM, SLOT, Sketch, World, timetable};
-use super::seen::{Seen, expect};
-use plan_changes::{ChangeFault, Deed};
-use plan_facts::List;
-use std::alloc::Global;
-use std::process::Abort;
+use super::cases::{Case, first_wrong};
+use super::made::{LESSON, ROOM, SLOT, World};
+use super::seen::Seen;
+use crate::tests::expect_none;
+use plan_changes::{ChangeFault, Ready};
 use std::test::Fail;
 
-/// A change that makes a room.
-const ADD_ROOM: Sketch = Sketch(Deed::Add, "room", 0, &[("capacity", Given::Num(5))], &[]);
-
-/// A change that takes the third room out.
-const REMOVE_ROOM: Sketch = Sketch(Deed::Remove, "room", 3, &[], &[]);
-
-/// A change that takes a timeslot out that lessons have.
-const REMOVE_SLOT: Sketch = Sketch(Deed::Remove, "timeslot", 2, &[], &[]);
-
-/// A change of a timeslot's hours.
-const MOVE_SLOT: Sketch = Sketch(
-    Deed::Alter,
-    "timeslot",
-    2,
-    &[("end", Given::Num(640)), ("start", Given::Num(580))],
-    &[],
-);
-
-/// A change that makes a lesson with new names.
-const ADD_LESSON: Sketch = Sketch(
-    Deed::Add,
-    "lesson",
-    0,
-    &[
-        ("group", Given::Name("9C")),
-        ("size", Given::Num(12)),
-        ("subject", Given::Name("Art")),
-        ("teacher", Given::Name("Ada")),
-    ],
-    &[("room", Some(1))],
-);
-
-/// A change of the pinned lesson's variables.
-const ASSIGN: Sketch = Sketch(
-    Deed::Assign,
-    "lesson",
-    5,
-    &[],
-    &[("room", Some(1)), ("slot", Some(1))],
-);
-
-/// Changes one after another, and what is seen after them.
-#[derive(Clone, Copy)]
-struct Stage(&'static [Sketch], &'static [Seen]);
-
-/// Makes changes of the world.
-fn make_all(rt: &impl Abort, world: &mut World, changes: &[Sketch]) -> Result<(), ChangeFault>
-    requires { IsOfSchema world.old.schema world.old.plan }
-    ensures { IsOfSchema world.new.schema world.new.plan }
-{
-    for sketch in changes {
-        world.perform(rt, *sketch)?;
-    }
-    Ok(())
-}
-
-/// Makes changes of the world stage by stage, and looks what is seen after each stage.
-fn make_stages(rt: &impl Abort, world: &mut World, stages: &[Stage]) -> Result<(), Fail>
-    requires { IsOfSchema world.old.schema world.old.plan }
-{
-    for stage in stages {
-        make_all(rt, world, stage.0)?;
-        expect(rt, world, stage.1);
-    }
-    Ok(())
-}
-
-/// Makes changes of the timetable stage by stage, and looks what is seen after each stage.
-fn try_stages(rt: &impl Abort, alloc: Global, stages: &[Stage]) -> Result<(), Fail> {
-    let mut world = timetable(alloc)?;
-    make_stages(rt, &mut world, stages)
-}
-
-/// Two rooms are made, then one of them is taken out and another one made.
-const ROOMS: &[Stage] = &[
-    Stage(&[ADD_ROOM, ADD_ROOM], &[Seen::Ids(ROOM, &[1, 2, 3])]),
-    Stage(
-        &[REMOVE_ROOM, ADD_ROOM],
+/// Changes of the timetable.
+const CASES: &[Case] = &[
+    // Two rooms are made.
+    Case::Made(
+        &[
+            r#"{"do":"add","class":"room","fields":{"capacity":5}}"#,
+            r#"{"do":"add","class":"room","fields":{"capacity":5}}"#,
+        ],
+        &[Seen::Ids(ROOM, &[1, 2, 3])],
+    ),
+    // Two rooms are made, then one of them is taken out and another one made: an id is never used again.
+    Case::Made(
+        &[
+            r#"{"do":"add","class":"room","fields":{"capacity":5}}"#,
+            r#"{"do":"add","class":"room","fields":{"capacity":5}}"#,
+            r#"{"do":"remove","class":"room","id":3}"#,
+            r#"{"do":"add","class":"room","fields":{"capacity":5}}"#,
+        ],
         &[Seen::Ids(ROOM, &[1, 2, 4]), Seen::Fields(ROOM, 4, &[5])],
+    ),
+    // A timeslot that lessons have is taken out: they let it go.
+    Case::Made(
+        &[r#"{"do":"remove","class":"timeslot","id":2}"#],
+        &[
+            Seen::Ids(SLOT, &[1]),
+            Seen::Values(LESSON, 1, [Some(1), Some(1)]),
+            Seen::Values(LESSON, 2, [None, Some(1)]),
+            Seen::Values(LESSON, 5, [None, None]),
+            Seen::Unplaced(3),
+        ],
+    ),
+    // A timeslot's hours change, and no other field.
+    Case::Made(
+        &[r#"{"do":"alter","class":"timeslot","id":2,"fields":{"end":640,"start":580}}"#],
+        &[Seen::Fields(SLOT, 2, &[1, 580, 640]), Seen::Names(5)],
+    ),
+    // A lesson with new names is made, which are numbered in the order of its fields.
+    Case::Made(
+        &[
+            r#"{"do":"add","class":"lesson","fields":{"group":"9C","size":12,"subject":"Art","teacher":"Ada"},"values":{"room":1}}"#,
+        ],
+        &[
+            Seen::Fields(LESSON, 6, &[5, 1, 6, 12]),
+            Seen::Values(LESSON, 6, [None, Some(1)]),
+            Seen::Name("Art", 5),
+            Seen::Name("9C", 6),
+        ],
+    ),
+    // The pinned lesson's variables change.
+    Case::Made(
+        &[r#"{"do":"assign","class":"lesson","id":5,"values":{"room":1,"slot":1}}"#],
+        &[
+            Seen::Values(LESSON, 5, [Some(1), Some(1)]),
+            Seen::Pinned(LESSON, 5),
+        ],
+    ),
+    // One weight moves.
+    Case::Made(
+        &[r#"{"do":"weight","rule":"room_size","weight":3}"#],
+        &[Seen::Weights([1, 3])],
     ),
 ];
 
-#[test]
-fn an_id_is_never_used_again(rt: HostRuntime) -> Result<(), Fail> {
-    try_stages(&rt, rt.alloc(), ROOMS)
-}
-
-/// A timeslot that lessons have is taken out.
-const WITHOUT_SLOT: &[Stage] = &[Stage(
-    &[REMOVE_SLOT],
-    &[
-        Seen::Ids(SLOT, &[1]),
-        Seen::Values(LESSON, 1, &[Some(1), Some(1)]),
-        Seen::Values(LESSON, 2, &[None, Some(1)]),
-        Seen::Values(LESSON, 5, &[None, None]),
-        Seen::Unplaced(3),
-    ],
-)];
-
-#[test]
-fn a_value_that_is_taken_out_is_let_go(rt: HostRuntime) -> Result<(), Fail> {
-    try_stages(&rt, rt.alloc(), WITHOUT_SLOT)
-}
-
-/// A timeslot's hours change.
-const MOVED_SLOT: &[Stage] = &[Stage(
-    &[MOVE_SLOT],
-    &[Seen::Fields(SLOT, 2, &[1, 580, 640]), Seen::Names(5)],
-)];
-
-#[test]
-fn fields_that_are_named_change(rt: HostRuntime) -> Result<(), Fail> {
-    try_stages(&rt, rt.alloc(), MOVED_SLOT)
-}
-
-/// A lesson with new names is made.
-const NEW_LESSON: &[Stage] = &[Stage(
-    &[ADD_LESSON],
-    &[
-        Seen::Fields(LESSON, 6, &[5, 1, 6, 12]),
-        Seen::Values(LESSON, 6, &[None, Some(1)]),
-        Seen::Name(b"Art", 5),
-        Seen::Name(b"9C", 6),
-    ],
-)];
-
-#[test]
-fn new_names_are_numbered_in_the_order_of_fields(rt: HostRuntime) -> Result<(), Fail> {
-    try_stages(&rt, rt.alloc(), NEW_LESSON)
-}
-
-/// The pinned lesson's variables change.
-const ASSIGNED: &[Stage] = &[Stage(
-    &[ASSIGN],
-    &[
-        Seen::Values(LESSON, 5, &[Some(1), Some(1)]),
-        Seen::Pinned(LESSON, 5),
-    ],
-)];
-
-#[test]
-fn a_pinned_lesson_is_assigned(rt: HostRuntime) -> Result<(), Fail> {
-    try_stages(&rt, rt.alloc(), ASSIGNED)
-}
-
-/// Gives a rule another weight, which is at most a million; the weights after that.
-fn weights_after(
-    rt: &impl Abort,
-    world: &mut World,
-    rule: &str,
-    weight: u32,
-) -> Result<List<u32>, ChangeFault>
+/// Makes a change that may be made.
+fn perform(world: &mut World, ready: &Ready) -> Result<(), ChangeFault>
     requires schema { IsOfSchema world.old.schema world.old.plan }
-    requires weight { weight ≤ weight_limit }
+    requires may { MayPerform ready.now world.old.plan 2 }
+    ensures { IsOfSchema world.new.schema world.new.plan }
 {
-    let ready = world.ready_weight(rule, weight)?;
-    Ok(world.make(rt, ready)?)
+    if world.names.count() > 1000 {
+        return Err(ChangeFault::Memory);
+    }
+    ready.perform(&mut world.plan, &mut world.names, &mut world.weights)?;
+    Ok(())
 }
 
-/// Fails where the second rule's new weight isn't the only one that moved.
-fn expect_weights(rt: &impl Abort, world: &mut World) -> Result<(), Fail>
+/// Makes the change of the line, or gives its fault.
+fn make(world: &mut World, line: &str) -> Result<(), ChangeFault>
     requires { IsOfSchema world.old.schema world.old.plan }
+    ensures { IsOfSchema world.new.schema world.new.plan }
 {
-    let weights = weights_after(rt, world, "room_size", 3)?;
-    assert_eq!(rt; weights.as_slice(), [1, 3].as_slice());
+    let ready = world.ready(line)?;
+    perform(world, &ready)
+}
+
+/// Makes the changes of the lines, or gives the first fault.
+pub(super) fn make_all(world: &mut World, lines: &[&str]) -> Result<(), ChangeFault>
+    requires { IsOfSchema world.old.schema world.old.plan }
+    ensures { IsOfSchema world.new.schema world.new.plan }
+{
+    for line in lines {
+        make(world, line)?;
+    }
     Ok(())
 }
 
 #[test]
-fn a_weight_change_moves_one_weight(rt: HostRuntime) -> Result<(), Fail> {
-    let mut world = timetable(rt.alloc())?;
-    expect_weights(&rt, &mut world)
+fn changes_make_of_a_timetable_what_they_say(rt: HostRuntime) -> Result<(), Fail> {
+    expect_none(&rt, first_wrong(rt.alloc(), CASES));
+    Ok(())
 }

@@ -1,240 +1,130 @@
-//! What changes of a timetable are refused for.
+//! What changes of a timetable are refused for, and what those that may be made are about.
 
-use super::made::{Given, Sketch, World, timetable};
-use plan_changes::{ChangeFault, Deed};
-use std::process::Abort;
+use super::cases::{Case, first_wrong};
+use super::made::World;
+use crate::tests::expect_none;
+use plan_changes::{ChangeFault, Ready};
 use std::test::Fail;
 
-/// A name of 64 bytes.
-const LONG: &str = "nnnnnnnnnnnnnnnnnnnnnnnnnnnnnnnnnnnnnnnnnnnnnnnnnnnnnnnnnnnnnnnn";
+/// What becomes of a change: it is refused for this; or it may be made, or it may be made and is about the fact of
+/// this class and id, or about this rule.
+pub(super) enum Answer {
+    Refused(ChangeFault),
+    Taken,
+    Fact(u8, u32),
+    Rule(u8),
+}
 
-/// A name of 65 bytes.
-const TOO_LONG: &str = "nnnnnnnnnnnnnnnnnnnnnnnnnnnnnnnnnnnnnnnnnnnnnnnnnnnnnnnnnnnnnnnnn";
-
-/// Changes that are refused, each with its fault. Where several faults apply the first one of their order counts.
-const REFUSED: &[(Sketch, ChangeFault)] = &[
-    (
-        Sketch(Deed::Add, "rum", 0, &[], &[]),
-        ChangeFault::UnknownClass,
+/// Lines by their answers. Where several faults apply the first one of their order counts. The long name that is
+/// refused has 65 bytes, and the one that is taken 64.
+const ANSWERS: &[Case] = &[
+    Case::Answered(
+        r#"{"do":"add","class":"rum","fields":{}}
+{"do":"remove","class":"rum","id":9}"#,
+        Answer::Refused(ChangeFault::UnknownClass),
     ),
-    (
-        Sketch(Deed::Remove, "rum", 9, &[], &[]),
-        ChangeFault::UnknownClass,
+    Case::Answered(
+        r#"{"do":"remove","class":"room","id":9}"#,
+        Answer::Refused(ChangeFault::NoSuchFact { id: 9 }),
     ),
-    (
-        Sketch(Deed::Remove, "room", 9, &[], &[]),
-        ChangeFault::NoSuchFact { id: 9 },
+    Case::Answered(
+        r#"{"do":"alter","class":"room","id":2,"fields":{"size":1}}"#,
+        Answer::Refused(ChangeFault::NoSuchFact { id: 2 }),
     ),
-    (
-        Sketch(Deed::Alter, "room", 2, &[("size", Given::Num(1))], &[]),
-        ChangeFault::NoSuchFact { id: 2 },
+    Case::Answered(
+        r#"{"do":"assign","class":"lesson","id":3,"values":{"slot":1}}"#,
+        Answer::Refused(ChangeFault::NoSuchFact { id: 3 }),
     ),
-    (
-        Sketch(Deed::Assign, "lesson", 3, &[], &[("slot", Some(1))]),
-        ChangeFault::NoSuchFact { id: 3 },
+    Case::Answered(
+        r#"{"do":"alter","class":"room","id":1,"fields":{"size":1}}
+{"do":"add","class":"room","fields":{}}
+{"do":"alter","class":"room","id":1,"fields":{"capacity":1000000001}}
+{"do":"alter","class":"room","id":1,"fields":{"capacity":-1000000001}}
+{"do":"alter","class":"room","id":1,"fields":{"capacity":"30"}}
+{"do":"alter","class":"lesson","id":1,"fields":{"subject":1}}
+{"do":"alter","class":"lesson","id":1,"fields":{"subject":""}}
+{"do":"alter","class":"lesson","id":1,"fields":{"subject":"nnnnnnnnnnnnnnnnnnnnnnnnnnnnnnnnnnnnnnnnnnnnnnnnnnnnnnnnnnnnnnnnn"}}
+{"do":"add","class":"block","fields":{},"values":{"slot":null}}"#,
+        Answer::Refused(ChangeFault::BadField),
     ),
-    (
-        Sketch(Deed::Alter, "room", 1, &[("size", Given::Num(1))], &[]),
-        ChangeFault::BadField,
+    Case::Answered(
+        r#"{"do":"assign","class":"lesson","id":1,"values":{"slot":99}}
+{"do":"assign","class":"lesson","id":1,"values":{"day":null}}
+{"do":"add","class":"block","fields":{"day":1,"teacher":"Ada"},"values":{"slot":null}}"#,
+        Answer::Refused(ChangeFault::BadValue),
     ),
-    (
-        Sketch(Deed::Add, "room", 0, &[], &[]),
-        ChangeFault::BadField,
+    Case::Answered(
+        r#"{"do":"weight","rule":"rum","weight":3}"#,
+        Answer::Refused(ChangeFault::UnknownRule),
     ),
-    (
-        Sketch(
-            Deed::Alter,
-            "room",
-            1,
-            &[("capacity", Given::Num(1_000_000_001))],
-            &[],
-        ),
-        ChangeFault::BadField,
+    Case::Answered(
+        r#"{"do":"weight","rule":"room_size","weight":3}"#,
+        Answer::Rule(1),
     ),
-    (
-        Sketch(
-            Deed::Alter,
-            "room",
-            1,
-            &[("capacity", Given::Num(-1_000_000_001))],
-            &[],
-        ),
-        ChangeFault::BadField,
+    Case::Answered(
+        r#"{"do":"alter","class":"room","id":1,"fields":{}}
+{"do":"alter","class":"room","id":1,"fields":{"capacity":1000000000}}
+{"do":"alter","class":"room","id":1,"fields":{"capacity":-1000000000}}"#,
+        Answer::Fact(1, 1),
     ),
-    (
-        Sketch(
-            Deed::Alter,
-            "room",
-            1,
-            &[("capacity", Given::Name("30"))],
-            &[],
-        ),
-        ChangeFault::BadField,
+    Case::Answered(
+        r#"{"do":"add","class":"room","fields":{"capacity":5}}"#,
+        Answer::Fact(1, 2),
     ),
-    (
-        Sketch(Deed::Alter, "lesson", 1, &[("subject", Given::Num(1))], &[]),
-        ChangeFault::BadField,
+    Case::Answered(
+        r#"{"do":"remove","class":"timeslot","id":2}"#,
+        Answer::Fact(0, 2),
     ),
-    (
-        Sketch(
-            Deed::Alter,
-            "lesson",
-            1,
-            &[("subject", Given::Name(""))],
-            &[],
-        ),
-        ChangeFault::BadField,
+    Case::Answered(
+        r#"{"do":"alter","class":"lesson","id":1,"fields":{"subject":"nnnnnnnnnnnnnnnnnnnnnnnnnnnnnnnnnnnnnnnnnnnnnnnnnnnnnnnnnnnnnnnn"}}"#,
+        Answer::Fact(2, 1),
     ),
-    (
-        Sketch(
-            Deed::Alter,
-            "lesson",
-            1,
-            &[("subject", Given::Name(TOO_LONG))],
-            &[],
-        ),
-        ChangeFault::BadField,
-    ),
-    (
-        Sketch(Deed::Add, "block", 0, &[], &[("slot", None)]),
-        ChangeFault::BadField,
-    ),
-    (
-        Sketch(Deed::Assign, "lesson", 1, &[], &[("slot", Some(99))]),
-        ChangeFault::BadValue,
-    ),
-    (
-        Sketch(Deed::Assign, "lesson", 1, &[], &[("day", None)]),
-        ChangeFault::BadValue,
-    ),
-    (
-        Sketch(
-            Deed::Add,
-            "block",
-            0,
-            &[("day", Given::Num(1)), ("teacher", Given::Name("Ada"))],
-            &[("slot", None)],
-        ),
-        ChangeFault::BadValue,
+    Case::Answered(
+        r#"{"do":"assign","class":"lesson","id":5,"values":{"room":1,"slot":null}}"#,
+        Answer::Fact(2, 5),
     ),
 ];
 
-/// Changes that may be made, each with its class and the id of its fact.
-const TAKEN: &[(Sketch, u8, u32)] = &[
-    (Sketch(Deed::Alter, "room", 1, &[], &[]), 1, 1),
-    (
-        Sketch(Deed::Add, "room", 0, &[("capacity", Given::Num(5))], &[]),
-        1,
-        2,
-    ),
-    (Sketch(Deed::Remove, "timeslot", 2, &[], &[]), 0, 2),
-    (
-        Sketch(
-            Deed::Alter,
-            "room",
-            1,
-            &[("capacity", Given::Num(1_000_000_000))],
-            &[],
-        ),
-        1,
-        1,
-    ),
-    (
-        Sketch(
-            Deed::Alter,
-            "room",
-            1,
-            &[("capacity", Given::Num(-1_000_000_000))],
-            &[],
-        ),
-        1,
-        1,
-    ),
-    (
-        Sketch(
-            Deed::Alter,
-            "lesson",
-            1,
-            &[("subject", Given::Name(LONG))],
-            &[],
-        ),
-        2,
-        1,
-    ),
-    (
-        Sketch(
-            Deed::Assign,
-            "lesson",
-            5,
-            &[],
-            &[("room", Some(1)), ("slot", None)],
-        ),
-        2,
-        5,
-    ),
-];
-
-/// Fails where a change isn't refused for its fault.
-fn expect_refused(rt: &impl Abort, world: &World) {
-    for (sketch, fault) in REFUSED {
-        assert_eq!(rt; world.fault(rt, *sketch), Some(*fault));
+/// Whether this is what becomes of a change that may be made.
+fn is_taken(ready: &Ready, want: &Answer) -> bool {
+    match (want, ready.rule()) {
+        (Answer::Taken, _) => true,
+        (Answer::Fact(class, id), None) => ready.class() == *class && ready.id() == *id,
+        (Answer::Rule(number), Some(rule)) => rule == *number,
+        _ => false,
     }
+}
+
+/// Whether this is what becomes of a change that is refused.
+fn is_refused(fault: ChangeFault, want: &Answer) -> bool {
+    match want {
+        Answer::Refused(wanted) => fault == *wanted,
+        _ => false,
+    }
+}
+
+/// Whether this is what becomes of the change of the line.
+fn is_answered(world: &World, line: &str, want: &Answer) -> bool {
+    match world.ready(line) {
+        Ok(ready) => is_taken(&ready, want),
+        Err(fault) => is_refused(fault, want),
+    }
+}
+
+/// Whether this is what becomes of the change of each of the lines.
+pub(super) fn are_answered(world: &World, lines: &str, want: &Answer) -> bool {
+    for line in lines.lines() {
+        if !is_answered(world, line, want) {
+            return false;
+        }
+    }
+    true
 }
 
 #[test]
-fn bad_changes_are_refused_for_their_first_fault(rt: HostRuntime) -> Result<(), Fail> {
-    let world = timetable(rt.alloc())?;
-    expect_refused(&rt, &world);
-    Ok(())
-}
-
-/// The class and id of the fact that the change is about; none where it is refused.
-fn fact_of(rt: &impl Abort, world: &World, sketch: Sketch) -> Option<(u8, u32)> {
-    match world.ready(rt, sketch) {
-        Ok(ready) => match ready.rule() {
-            Some(_) => None,
-            None => Some((ready.class(), ready.id())),
-        },
-        Err(_) => None,
-    }
-}
-
-/// Fails where a change doesn't name its fact.
-fn expect_taken(rt: &impl Abort, world: &World) {
-    for (sketch, class, id) in TAKEN {
-        assert_eq!(rt; fact_of(rt, world, *sketch), Some((*class, *id)));
-    }
-}
-
-#[test]
-fn good_changes_name_their_fact(rt: HostRuntime) -> Result<(), Fail> {
-    let world = timetable(rt.alloc())?;
-    expect_taken(&rt, &world);
-    Ok(())
-}
-
-/// The rule of a weight change, or what it is refused for.
-fn rule_of(world: &World, name: &str) -> Result<Option<u8>, ChangeFault> {
-    let ready = world.ready_weight(name, 3)?;
-    Ok(ready.rule())
-}
-
-/// Rules by their names, each with its number or with what a change of its weight is refused for.
-const RULES: &[(&str, Result<Option<u8>, ChangeFault>)] = &[
-    ("room_size", Ok(Some(1))),
-    ("rum", Err(ChangeFault::UnknownRule)),
-];
-
-/// Fails where a weight change doesn't know its rule.
-fn expect_rules(rt: &impl Abort, world: &World) {
-    for (name, rule) in RULES {
-        assert_eq!(rt; rule_of(world, name), *rule);
-    }
-}
-
-#[test]
-fn a_weight_change_knows_its_rule(rt: HostRuntime) -> Result<(), Fail> {
-    let world = timetable(rt.alloc())?;
-    expect_rules(&rt, &world);
+fn changes_are_refused_for_their_first_fault_or_name_their_fact(
+    rt: HostRuntime,
+) -> Result<(), Fail> {
+    expect_none(&rt, first_wrong(rt.alloc(), ANSWERS));
     Ok(())
 }

@@ -8,12 +8,14 @@ use crate::lone_row;
 use domain_roster::{
     Maker, harder, key_value, numbers, open_schema, schema, test_value, weight_value,
 };
-use plan_facts::{List, Memory, Plan, Raw, Rec, Schema, Value};
+use domain_words::ClosureNumbers;
+use plan_facts::{List, Memory, Plan, Rec, Schema, Value};
 use plan_moves::{Edit, MoveMaker, Set};
 use plan_rules::{Part, Row};
 use std::alloc::Global;
-use std::process::Abort;
 use std::test::Fail;
+use test_plans::FactSketch::Entity;
+use test_plans::{FactSketch, plan_of};
 
 /// A part of a row, in short: a shift at these times, with a worker or with none; another fact; or a number.
 enum Sketch {
@@ -64,6 +66,7 @@ fn shift(alloc: Global, times: &[i64; 3], worker: Option<Value>) -> Result<Part,
     }))
 }
 
+/// The part that is sketched.
 fn part(alloc: Global, sketch: &Sketch) -> Result<Part, Memory> {
     match sketch {
         Filled(times) => shift(alloc, times, employee(alloc)?),
@@ -73,6 +76,7 @@ fn part(alloc: Global, sketch: &Sketch) -> Result<Part, Memory> {
     }
 }
 
+/// The row of two parts.
 fn row_of_two(alloc: Global, one: Part, other: Part) -> Result<Row, Memory>
     ensures { IfOk result (λ row. length row ≡ 2) }
 {
@@ -81,12 +85,14 @@ fn row_of_two(alloc: Global, one: Part, other: Part) -> Result<Row, Memory>
     Ok(row)
 }
 
+/// The row of two numbers and a part.
 fn row_of_three(alloc: Global, one: i64, other: i64, third: Part) -> Result<Row, Memory> {
     let mut row = row_of_two(alloc, Part::Num(one), Part::Num(other))?;
     row.push(third)?;
     Ok(row)
 }
 
+/// The row that is sketched.
 fn row_of(alloc: Global, sketch: &RowSketch) -> Result<Row, Memory> {
     match sketch {
         One(one) => lone_row(alloc, part(alloc, one)?),
@@ -131,20 +137,39 @@ const KEYS_READ: [(RowSketch, [i64; 12]); 8] = [
     (One(Num(-MAX - 1)), [0, 0, 0, 0, 0, 0, 0, 0, 0, -MAX, 0, 0]),
 ];
 
-fn expect_keys(rt: &impl Abort, row: &Row, wanted: &[i64; 12]) {
+/// Whether the keys read that of the row.
+fn reads(row: &Row, wanted: &[i64; 12]) -> bool {
     for (number, wanted) in (16..28).zip(wanted.iter()) {
-        assert_eq!(rt; key_value(number, row), *wanted);
+        if key_value(number, row) != *wanted {
+            return false;
+        }
     }
+    true
+}
+
+/// Whether they read that of a sketched row.
+fn sketch_reads(alloc: Global, sketch: &RowSketch, wanted: &[i64; 12]) -> Result<bool, Memory> {
+    let row = row_of(alloc, sketch)?;
+    Ok(reads(&row, wanted))
+}
+
+/// The place of the first row of which something else is read.
+fn wrong_reading(alloc: Global) -> Option<usize> {
+    for (place, (sketch, wanted)) in KEYS_READ.iter().enumerate() {
+        if sketch_reads(alloc, sketch, wanted) != Ok(true) {
+            return Some(place);
+        }
+    }
+    None
 }
 
 #[test]
 fn keys_read_their_numbers(rt: HostRuntime) -> Result<(), Fail> {
-    for (sketch, wanted) in &KEYS_READ {
-        expect_keys(&rt, &row_of(rt.alloc(), sketch)?, wanted);
-    }
+    assert!(rt; wrong_reading(rt.alloc()) == None);
     Ok(())
 }
 
+/// A shift that ends late.
 const LATE: Sketch = Filled([3, 420, 900]);
 
 /// Rows, and which of the tests from 16 on they pass.
@@ -162,17 +187,35 @@ const PASSED: [(RowSketch, &[u16]); 11] = [
     (Three(9, 2400, Num(1320)), &[19]),
 ];
 
-fn expect_passed(rt: &impl Abort, row: &Row, wanted: &[u16]) {
+/// Whether the row passes those tests alone.
+fn passes(row: &Row, wanted: &[u16]) -> bool {
     for number in 16..25 {
-        assert_eq!(rt; test_value(number, row), wanted.contains(&number));
+        if test_value(number, row) != wanted.contains(&number) {
+            return false;
+        }
     }
+    true
+}
+
+/// Whether a sketched row passes those tests alone.
+fn sketch_passes(alloc: Global, sketch: &RowSketch, wanted: &[u16]) -> Result<bool, Memory> {
+    let row = row_of(alloc, sketch)?;
+    Ok(passes(&row, wanted))
+}
+
+/// The place of the first row that passes other tests.
+fn wrong_passing(alloc: Global) -> Option<usize> {
+    for (place, (sketch, wanted)) in PASSED.iter().enumerate() {
+        if sketch_passes(alloc, sketch, wanted) != Ok(true) {
+            return Some(place);
+        }
+    }
+    None
 }
 
 #[test]
 fn tests_answer(rt: HostRuntime) -> Result<(), Fail> {
-    for (sketch, wanted) in &PASSED {
-        expect_passed(&rt, &row_of(rt.alloc(), sketch)?, wanted);
-    }
+    assert!(rt; wrong_passing(rt.alloc()) == None);
     Ok(())
 }
 
@@ -183,50 +226,52 @@ const WEIGHED: [(RowSketch, [u32; 4]); 3] = [
     (Three(9, 20_000, Num(0)), [0, 10_000, 10_000, 0]),
 ];
 
-fn expect_weights(rt: &impl Abort, row: &Row, wanted: &[u32; 4]) {
-    for (number, wanted) in (16..20).zip(wanted.iter()) {
-        assert_eq!(rt; weight_value(number, row), *wanted);
+/// The weights that the weighers from 16 on give the row.
+fn weights(row: &Row) -> [u32; 4] {
+    [
+        weight_value(16, row),
+        weight_value(17, row),
+        weight_value(18, row),
+        weight_value(19, row),
+    ]
+}
+
+/// The place of the first row that is weighed otherwise.
+fn wrong_weight(alloc: Global) -> Result<Option<usize>, Memory> {
+    for (place, (sketch, wanted)) in WEIGHED.iter().enumerate() {
+        let row = row_of(alloc, sketch)?;
+        if weights(&row) != *wanted {
+            return Ok(Some(place));
+        }
     }
+    Ok(None)
 }
 
 #[test]
 fn weighers_answer(rt: HostRuntime) -> Result<(), Fail> {
-    for (sketch, wanted) in &WEIGHED {
-        expect_weights(&rt, &row_of(rt.alloc(), sketch)?, wanted);
-    }
+    assert!(rt; wrong_weight(rt.alloc()) == Ok(None));
     Ok(())
 }
 
-/// A fact that isn't pinned.
-fn raw(alloc: Global, id: u32, fields: &[i64], values: &[Option<u32>]) -> Result<Raw, Memory> {
-    let fields = List::from_slice(alloc, fields)?;
-    let values = List::from_slice(alloc, values)?;
-    let pinned = false;
-    Ok(Raw {
-        id,
-        fields,
-        values,
-        pinned,
-    })
-}
-
 /// Shifts 1 to 3, whose workers are the employees 1 and 2 and nobody.
+const PLAN: &[&[FactSketch]] = &[
+    &[FactSketch::Fact(1, &[7, 5]), FactSketch::Fact(2, &[7, 5])],
+    &[
+        Entity(1, &[1, 420, 900, 7], &[Some(1)]),
+        Entity(2, &[2, 420, 900, 7], &[Some(2)]),
+        Entity(3, &[3, 420, 900, 7], &[None]),
+    ],
+    &[],
+    &[],
+];
+
+/// That plan.
 fn plan(alloc: Global) -> Result<Plan, Fail> {
-    let mut employees = List::new(alloc);
-    employees.push(raw(alloc, 1, &[7, 5], &[])?)?;
-    employees.push(raw(alloc, 2, &[7, 5], &[])?)?;
-    let mut shifts = List::new(alloc);
-    shifts.push(raw(alloc, 1, &[1, 420, 900, 7], &[Some(1)])?)?;
-    shifts.push(raw(alloc, 2, &[2, 420, 900, 7], &[Some(2)])?)?;
-    shifts.push(raw(alloc, 3, &[3, 420, 900, 7], &[None])?)?;
-    let mut lists = List::new(alloc);
-    lists.push(employees)?;
-    lists.push(shifts)?;
-    lists.push(List::new(alloc))?;
-    lists.push(List::new(alloc))?;
-    Ok(Plan::of(alloc, &schema(alloc)?, lists)?)
+    let schema = schema(alloc)?;
+    Ok(plan_of(alloc, &schema, PLAN)?)
 }
 
+/// The set that gives a shift a worker.
 fn worker(id: u32, value: Option<u32>) -> Set {
     Set {
         class: 1,
@@ -236,17 +281,29 @@ fn worker(id: u32, value: Option<u32>) -> Set {
     }
 }
 
+/// Whether the maker makes these sets of the words; none where it makes nothing.
+fn makes(
+    alloc: Global,
+    plan: &Plan,
+    words: &[u32; 8],
+    wanted: Option<&[Set]>,
+) -> Result<bool, Memory> {
+    let mut edit = Edit::new(alloc);
+    let made = Maker.make(plan, words, &mut edit)?;
+    Ok(match wanted {
+        Some(sets) => made && edit.sets() == sets,
+        None => !made,
+    })
+}
+
 #[test]
 fn the_maker_moves_workers_on(rt: HostRuntime) -> Result<(), Fail> {
-    let alloc = rt.alloc();
-    let plan = plan(alloc)?;
-    let mut edit = Edit::new(alloc);
-    let words = [0, 0, u32::MAX, 0, 1 << 31, 0, 0, 0];
-    assert!(rt; Maker.make(&plan, &words, &mut edit)?);
+    let plan = plan(rt.alloc())?;
     let wanted = [worker(1, Some(2)), worker(2, None), worker(3, Some(1))];
-    assert_eq!(rt; edit.sets(), wanted.as_slice());
-    let mut none = Edit::new(alloc);
-    assert!(rt; !Maker.make(&plan, &[0, 0, u32::MAX, 0, 0, 0, 0, 0], &mut none)?);
+    let words = [0, 0, u32::MAX, 0, 1 << 31, 0, 0, 0];
+    let moved = makes(rt.alloc(), &plan, &words, Some(&wanted));
+    let none = makes(rt.alloc(), &plan, &[0, 0, u32::MAX, 0, 0, 0, 0, 0], None);
+    assert!(rt; (moved, none) == (Ok(true), Ok(true)));
     Ok(())
 }
 
@@ -254,15 +311,20 @@ fn the_maker_moves_workers_on(rt: HostRuntime) -> Result<(), Fail> {
 fn harder_shifts_are_the_longer_ones(rt: HostRuntime) -> Result<(), Fail> {
     let harder = harder(rt.alloc())?;
     let pairs = harder.as_slice();
-    assert_eq!(rt; pairs.len(), 1);
-    assert!(rt; pairs[0].class == 1 && pairs[0].key == 26);
-    let all = numbers();
-    assert_eq!(rt; all.tests, [16, 17, 18, 19, 20, 21, 22, 23].as_slice());
-    assert_eq!(rt;
-        all.keys,
-        [16, 17, 18, 19, 20, 21, 22, 23, 24, 25, 26].as_slice()
-    );
-    assert_eq!(rt; all.weighers, [16, 17, 18].as_slice());
+    assert!(rt; pairs.len() == 1 && pairs[0].class == 1 && pairs[0].key == 26);
+    Ok(())
+}
+
+/// Whether these are the numbers of the closures.
+fn has_all(all: &ClosureNumbers) -> bool {
+    all.tests == [16, 17, 18, 19, 20, 21, 22, 23].as_slice()
+        && all.keys == [16, 17, 18, 19, 20, 21, 22, 23, 24, 25, 26].as_slice()
+        && all.weighers == [16, 17, 18].as_slice()
+}
+
+#[test]
+fn the_closures_have_their_numbers(rt: HostRuntime) -> Result<(), Fail> {
+    assert!(rt; has_all(&numbers()));
     Ok(())
 }
 
@@ -275,9 +337,15 @@ fn may_stay_open(schema: &Schema) -> Option<bool> {
 }
 
 #[test]
-fn only_in_the_open_roster_a_worker_may_stay_null(rt: HostRuntime) -> Result<(), Fail> {
-    let alloc = rt.alloc();
-    assert_eq!(rt; may_stay_open(&schema(alloc)?), Some(false));
-    assert_eq!(rt; may_stay_open(&open_schema(alloc)?), Some(true));
+fn in_the_roster_a_worker_may_not_stay_null(rt: HostRuntime) -> Result<(), Fail> {
+    let closed = schema(rt.alloc())?;
+    assert!(rt; may_stay_open(&closed) == Some(false));
+    Ok(())
+}
+
+#[test]
+fn in_the_open_roster_a_worker_may_stay_null(rt: HostRuntime) -> Result<(), Fail> {
+    let open_one = open_schema(rt.alloc())?;
+    assert!(rt; may_stay_open(&open_one) == Some(true));
     Ok(())
 }

@@ -4,13 +4,16 @@ ghost use Rattle.std.specs.Prelude.{◌≡◌, IfOk, length};
 
 use crate::lone_row;
 use domain_timetable::{Maker, defs, harder, key_value, numbers, schema, test_value, weight_value};
-use plan_facts::{List, Memory, Plan, Raw, Rec, Value};
+use domain_words::ClosureNumbers;
+use plan_facts::{List, Memory, Plan, Rec, Value};
 use plan_moves::{Edit, MoveMaker, Set};
 use plan_rules::{Part, Row};
 use std::alloc::Global;
-use std::process::Abort;
 use std::test::Fail;
+use test_plans::FactSketch::{Entity, Fact};
+use test_plans::{FactSketch, plan_of};
 
+/// The value that a fact is.
 fn value(alloc: Global, id: u32, fields: &[i64]) -> Result<Option<Value>, Memory> {
     let fields = List::from_slice(alloc, fields)?;
     Ok(Some(Value { id, fields }))
@@ -35,25 +38,29 @@ fn lesson(
     }))
 }
 
+/// A lesson for 31 in a slot of day 1, from this minute to that, and a room that holds so many.
+fn placed_lesson(alloc: Global, slot: (u32, i64, i64), room: (u32, i64)) -> Result<Part, Memory> {
+    let (id, start, end) = slot;
+    let slot = value(alloc, id, &[1, start, end])?;
+    let room = value(alloc, room.0, &[room.1])?;
+    lesson(alloc, 31, slot, room)
+}
+
 /// A lesson for 31 in slot 2 and room 3, which holds 30.
 fn full_lesson(alloc: Global) -> Result<Row, Memory>
     ensures { IfOk result (λ row. length row ≡ 1) }
 {
-    let slot = value(alloc, 2, &[1, 480, 540])?;
-    let room = value(alloc, 3, &[30])?;
-    lone_row(alloc, lesson(alloc, 31, slot, room)?)
+    lone_row(alloc, placed_lesson(alloc, (2, 480, 540), (3, 30))?)
 }
 
 /// That lesson and one in slot 4, which starts at this minute, and room 5.
 fn two_lessons(alloc: Global, start: i64) -> Result<Row, Memory> {
-    let slot = value(alloc, 4, &[1, start, 640])?;
-    let room = value(alloc, 5, &[40])?;
-    let second = lesson(alloc, 31, slot, room)?;
     let mut row = full_lesson(alloc)?;
-    row.push(second)?;
+    row.push(placed_lesson(alloc, (4, start, 640), (5, 40))?)?;
     Ok(row)
 }
 
+/// Three numbers, of which this is the third.
 fn three_numbers(alloc: Global, third: i64) -> Result<Row, Memory> {
     let mut row = lone_row(alloc, Part::Num(7))?;
     row.push(Part::Num(1))?;
@@ -61,6 +68,7 @@ fn three_numbers(alloc: Global, third: i64) -> Result<Row, Memory> {
     Ok(row)
 }
 
+/// Day 1 of teacher 6, who is away.
 fn block(alloc: Global) -> Result<Row, Memory> {
     let fields = List::from_slice(alloc, &[6, 1])?;
     let planned = List::new(alloc);
@@ -95,6 +103,7 @@ enum Sketch {
 
 use Sketch::{Block, Homeless, Lesson, Lessons, Numbers};
 
+/// The row that is sketched.
 fn row_of(alloc: Global, sketch: &Sketch) -> Result<Row, Memory> {
     match sketch {
         Lesson => full_lesson(alloc),
@@ -112,27 +121,50 @@ const KEYS_READ: [(Sketch, [i64; 10]); 3] = [
     (Homeless, [0, 0, 0, 0, 0, 0, 0, 0, 31, 0]),
 ];
 
-fn expect_keys(rt: &impl Abort, row: &Row, wanted: &[i64; 10]) {
+/// Whether the keys read that of the row.
+fn reads(row: &Row, wanted: &[i64; 10]) -> bool {
     for (number, wanted) in (0..10).zip(wanted.iter()) {
-        assert_eq!(rt; key_value(number, row), *wanted);
+        if key_value(number, row) != *wanted {
+            return false;
+        }
     }
+    true
+}
+
+/// Whether they read that of a sketched row.
+fn sketch_reads(alloc: Global, sketch: &Sketch, wanted: &[i64; 10]) -> Result<bool, Memory> {
+    let row = row_of(alloc, sketch)?;
+    Ok(reads(&row, wanted))
+}
+
+/// The place of the first row of which something else is read.
+fn wrong_reading(alloc: Global) -> Option<usize> {
+    for (place, (sketch, wanted)) in KEYS_READ.iter().enumerate() {
+        if sketch_reads(alloc, sketch, wanted) != Ok(true) {
+            return Some(place);
+        }
+    }
+    None
 }
 
 #[test]
 fn keys_read_their_numbers(rt: HostRuntime) -> Result<(), Fail> {
-    for (sketch, wanted) in &KEYS_READ {
-        expect_keys(&rt, &row_of(rt.alloc(), sketch)?, wanted);
-    }
+    assert!(rt; wrong_reading(rt.alloc()) == None);
     Ok(())
+}
+
+/// What the key of the slot's id reads of a lesson in a slot whose id is greater than any key.
+fn clipped_key(alloc: Global) -> Result<i64, Memory> {
+    let row = lone_row(
+        alloc,
+        placed_lesson(alloc, (1_000_000_001, 480, 540), (3, 30))?,
+    )?;
+    Ok(key_value(0, &row))
 }
 
 #[test]
 fn a_key_is_clipped(rt: HostRuntime) -> Result<(), Fail> {
-    let alloc = rt.alloc();
-    let slot = value(alloc, 1_000_000_001, &[1, 480, 540])?;
-    let room = value(alloc, 3, &[30])?;
-    let row = lone_row(alloc, lesson(alloc, 31, slot, room)?)?;
-    assert_eq!(rt; key_value(0, &row), 1_000_000_000);
+    assert!(rt; clipped_key(rt.alloc()) == Ok(1_000_000_000));
     Ok(())
 }
 
@@ -146,17 +178,35 @@ const PASSED: [(Sketch, &[u16]); 6] = [
     (Numbers(6), &[]),
 ];
 
-fn expect_passed(rt: &impl Abort, row: &Row, wanted: &[u16]) {
+/// Whether the row passes those tests alone.
+fn passes(row: &Row, wanted: &[u16]) -> bool {
     for number in 0..5 {
-        assert_eq!(rt; test_value(number, row), wanted.contains(&number));
+        if test_value(number, row) != wanted.contains(&number) {
+            return false;
+        }
     }
+    true
+}
+
+/// Whether a sketched row passes those tests alone.
+fn sketch_passes(alloc: Global, sketch: &Sketch, wanted: &[u16]) -> Result<bool, Memory> {
+    let row = row_of(alloc, sketch)?;
+    Ok(passes(&row, wanted))
+}
+
+/// The place of the first row that passes other tests.
+fn wrong_passing(alloc: Global) -> Option<usize> {
+    for (place, (sketch, wanted)) in PASSED.iter().enumerate() {
+        if sketch_passes(alloc, sketch, wanted) != Ok(true) {
+            return Some(place);
+        }
+    }
+    None
 }
 
 #[test]
 fn tests_answer(rt: HostRuntime) -> Result<(), Fail> {
-    for (sketch, wanted) in &PASSED {
-        expect_passed(&rt, &row_of(rt.alloc(), sketch)?, wanted);
-    }
+    assert!(rt; wrong_passing(rt.alloc()) == None);
     Ok(())
 }
 
@@ -167,73 +217,87 @@ const WEIGHED: [(Sketch, [u32; 3]); 3] = [
     (Numbers(20_000), [0, 10_000, 0]),
 ];
 
-fn expect_weights(rt: &impl Abort, row: &Row, wanted: &[u32; 3]) {
-    for (number, wanted) in (0..3).zip(wanted.iter()) {
-        assert_eq!(rt; weight_value(number, row), *wanted);
+/// The place of the first row that is weighed otherwise.
+fn wrong_weight(alloc: Global) -> Result<Option<usize>, Memory> {
+    for (place, (sketch, wanted)) in WEIGHED.iter().enumerate() {
+        let row = row_of(alloc, sketch)?;
+        let weights = [
+            weight_value(0, &row),
+            weight_value(1, &row),
+            weight_value(2, &row),
+        ];
+        if weights != *wanted {
+            return Ok(Some(place));
+        }
     }
+    Ok(None)
 }
 
 #[test]
 fn weighers_answer(rt: HostRuntime) -> Result<(), Fail> {
-    for (sketch, wanted) in &WEIGHED {
-        expect_weights(&rt, &row_of(rt.alloc(), sketch)?, wanted);
-    }
+    assert!(rt; wrong_weight(rt.alloc()) == Ok(None));
     Ok(())
 }
 
-/// A fact that isn't pinned.
-fn raw(alloc: Global, id: u32, fields: &[i64], values: &[Option<u32>]) -> Result<Raw, Memory> {
-    let fields = List::from_slice(alloc, fields)?;
-    let values = List::from_slice(alloc, values)?;
-    let pinned = false;
-    Ok(Raw {
-        id,
-        fields,
-        values,
-        pinned,
-    })
+/// Lesson 1 in slot 1 and lesson 2 in slot 2.
+const PLAN: &[&[FactSketch]] = &[
+    &[Fact(1, &[1, 480, 540]), Fact(2, &[1, 540, 600])],
+    &[],
+    &[
+        Entity(1, &[5, 6, 7, 30], &[Some(1), None]),
+        Entity(2, &[5, 6, 7, 30], &[Some(2), None]),
+    ],
+    &[],
+];
+
+/// That plan.
+fn plan(alloc: Global) -> Result<Plan, Fail> {
+    let schema = schema(alloc)?;
+    Ok(plan_of(alloc, &schema, PLAN)?)
 }
 
-/// Lesson 1 in slot 1 and lesson 2 in slot 2.
-fn plan(alloc: Global) -> Result<Plan, Fail> {
-    let mut slots = List::new(alloc);
-    slots.push(raw(alloc, 1, &[1, 480, 540], &[])?)?;
-    slots.push(raw(alloc, 2, &[1, 540, 600], &[])?)?;
-    let mut lessons = List::new(alloc);
-    lessons.push(raw(alloc, 1, &[5, 6, 7, 30], &[Some(1), None])?)?;
-    lessons.push(raw(alloc, 2, &[5, 6, 7, 30], &[Some(2), None])?)?;
-    let mut lists = List::new(alloc);
-    lists.push(slots)?;
-    lists.push(List::new(alloc))?;
-    lists.push(lessons)?;
-    lists.push(List::new(alloc))?;
-    Ok(Plan::of(alloc, &schema(alloc)?, lists)?)
+/// The sets that exchange their slots.
+const EXCHANGED: [Set; 2] = [
+    Set {
+        class: 2,
+        id: 1,
+        var: 0,
+        value: Some(2),
+    },
+    Set {
+        class: 2,
+        id: 2,
+        var: 0,
+        value: Some(1),
+    },
+];
+
+/// Whether the maker makes these sets of the words; none where it makes nothing.
+fn makes(
+    alloc: Global,
+    plan: &Plan,
+    words: &[u32; 8],
+    wanted: Option<&[Set]>,
+) -> Result<bool, Memory> {
+    let mut edit = Edit::new(alloc);
+    let made = Maker.make(plan, words, &mut edit)?;
+    Ok(match wanted {
+        Some(sets) => made && edit.sets() == sets,
+        None => !made,
+    })
 }
 
 #[test]
 fn the_maker_exchanges_slots(rt: HostRuntime) -> Result<(), Fail> {
-    let alloc = rt.alloc();
-    let plan = plan(alloc)?;
-    let mut edit = Edit::new(alloc);
-    let made = Maker.make(&plan, &[0, 0, 1 << 31, 0, 0, 0, 0, 0], &mut edit)?;
-    let wanted = [
-        Set {
-            class: 2,
-            id: 1,
-            var: 0,
-            value: Some(2),
-        },
-        Set {
-            class: 2,
-            id: 2,
-            var: 0,
-            value: Some(1),
-        },
-    ];
-    assert!(rt; made);
-    assert_eq!(rt; edit.sets(), wanted.as_slice());
-    let mut none = Edit::new(alloc);
-    assert!(rt; !Maker.make(&plan, &[0; 8], &mut none)?);
+    let plan = plan(rt.alloc())?;
+    let exchanged = makes(
+        rt.alloc(),
+        &plan,
+        &[0, 0, 1 << 31, 0, 0, 0, 0, 0],
+        Some(&EXCHANGED),
+    );
+    let none = makes(rt.alloc(), &plan, &[0; 8], None);
+    assert!(rt; (exchanged, none) == (Ok(true), Ok(true)));
     Ok(())
 }
 
@@ -241,17 +305,20 @@ fn the_maker_exchanges_slots(rt: HostRuntime) -> Result<(), Fail> {
 fn harder_lessons_are_the_greater_ones(rt: HostRuntime) -> Result<(), Fail> {
     let harder = harder(rt.alloc())?;
     let pairs = harder.as_slice();
-    assert_eq!(rt; pairs.len(), 1);
-    assert!(rt; pairs[0].class == 2 && pairs[0].key == 8);
+    assert!(rt; pairs.len() == 1 && pairs[0].class == 2 && pairs[0].key == 8);
     Ok(())
+}
+
+/// Whether these are the numbers of the closures.
+fn has_all(all: &ClosureNumbers) -> bool {
+    all.tests == [0, 1, 2, 3].as_slice()
+        && all.keys == [0, 1, 2, 3, 4, 5, 6, 7, 8].as_slice()
+        && all.weighers == [0, 1].as_slice()
 }
 
 #[test]
 fn there_are_nine_rules_that_ask_fifteen_closures(rt: HostRuntime) -> Result<(), Fail> {
-    assert_eq!(rt; defs(rt.alloc())?.len(), 9);
-    let all = numbers();
-    assert_eq!(rt; all.tests, [0, 1, 2, 3].as_slice());
-    assert_eq!(rt; all.keys, [0, 1, 2, 3, 4, 5, 6, 7, 8].as_slice());
-    assert_eq!(rt; all.weighers, [0, 1].as_slice());
+    let rules = defs(rt.alloc())?;
+    assert!(rt; rules.len() == 9 && has_all(&numbers()));
     Ok(())
 }

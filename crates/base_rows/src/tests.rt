@@ -1,7 +1,11 @@
 mod accepting;
 mod draws;
+mod foraging;
 mod generated;
+mod journals;
 mod lines;
 mod ports;
 mod scores;
+mod settings;
+mod sources;
 mod values;

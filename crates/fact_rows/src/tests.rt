@@ -1,8 +1,8 @@
 mod fixtures;
-mod maker;
 mod moves;
 mod names;
 mod plan;
 mod rules;
 mod schema;
 mod selectors;
+mod sketches;

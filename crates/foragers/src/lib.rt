@@ -11,9 +11,6 @@ pub use forager::Forager;
 use plan_scores::PlanScore;
 use plan_settings::Early;
 
-#[cfg(test)]
-mod tests;
-
 /// A judged candidate: its number, the score after it, and whether it is accepted.
 #[derive(Clone, Copy, Debug, PartialEq, Eq)]
 pub struct Seen {

@@ -6,6 +6,3 @@ mod line;
 mod parts;
 
 pub use line::{Line, write_line};
-
-#[cfg(test)]
-mod tests;

@@ -111,6 +111,3 @@ fn is_size(number: u32) -> bool
 {
     matches!(number, 1..=SIZE_LIMIT)
 }
-
-#[cfg(test)]
-mod tests;

@@ -3,8 +3,6 @@
 
 mod fault;
 mod pieces;
-#[cfg(test)]
-mod tests;
 mod words;
 
 pub use fault::ProblemFault;

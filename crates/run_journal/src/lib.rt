@@ -8,6 +8,3 @@ mod read;
 
 pub use fault::JournalFault;
 pub use lines::bounds_of;
-
-#[cfg(test)]
-mod tests;

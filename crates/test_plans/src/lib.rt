@@ -6,6 +6,3 @@ mod facts;
 
 pub use classes::{ClassSketch, VarSketch, schema_of};
 pub use facts::{FactSketch, plan_of};
-
-#[cfg(test)]
-mod tests;

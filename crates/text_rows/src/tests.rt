@@ -1,5 +1,7 @@
 mod fixtures;
 mod json;
 mod records;
+mod refusals;
+mod reports;
 mod settings;
 mod words;

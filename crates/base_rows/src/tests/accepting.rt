@@ -1,15 +1,15 @@
 //! Acceptors: what each kind accepts after some steps.
 
-ghost use Rattle.std.specs.Prelude.{◌≡◌, IfOk};
+ghost use Rattle.std.specs.Prelude.{◌≤◌, ◌<◌, ◌+◌};
 
 use crate::plan_score;
 use Line::{Accepted, Begin, Refused, Step};
 use acceptors::Acceptor;
+use plan_facts::Memory;
 use plan_moves::Touch;
 use plan_scores::{PlanScore, Score};
 use plan_settings::AcceptorKind;
 use std::alloc::Global;
-use std::test::Fail;
 
 /// A line of the legs that another program went through. A move is the three numbers of its score,
 /// and the ids of the entities of class 0 that it touches; 0 is none.
@@ -22,7 +22,7 @@ enum Line {
     Refused([i64; 3], [u32; 2]),
 }
 
-const LINES: &[Line] = &[
+const LINES: [Line; 379] = [
     // By hand: start score 0, then steps that end at -3 and -1.
     Begin(AcceptorKind::Late, 2, [0, 0, 0]),
     Step([0, 0, -3], [2, 0]),
@@ -411,60 +411,80 @@ fn placed(numbers: [i64; 3]) -> PlanScore {
     plan_score(0, Score { hard, medium, soft })
 }
 
-fn touches(alloc: Global, ids: [u32; 2]) -> Result<Vec<Touch>, Fail> {
-    let mut touched = Vec::new(alloc);
-    for id in ids {
-        if id > 0 {
-            touched.push(Touch { class: 0, id })?;
+/// The entities of these ids, and how many of them there are.
+fn touches(ids: [u32; 2]) -> ([Touch; 2], usize)
+    ensures { result.1 ≤ 2 }
+{
+    let [first, second] = ids;
+    let both = [
+        Touch {
+            class: 0,
+            id: first,
+        },
+        Touch {
+            class: 0,
+            id: second,
+        },
+    ];
+    let count = if first == 0 {
+        0
+    } else if second == 0 {
+        1
+    } else {
+        2
+    };
+    (both, count)
+}
+
+/// Whether the acceptor answers a line as it says, and has done one step more at most.
+fn agrees(acceptor: &mut Acceptor, line: Line) -> bool
+    requires { acceptor.old.steps ≤ 10000 }
+    ensures { acceptor.new.steps ≤ acceptor.old.steps + 1 }
+{
+    let (Step(score, ids) | Accepted(score, ids) | Refused(score, ids)) = line else {
+        return false;
+    };
+    let score = placed(score);
+    let (both, count) = touches(ids);
+    let touched = &both[..count];
+    match line {
+        Step(..) => acceptor.after(score, touched).is_ok(),
+        Accepted(..) => acceptor.accepted(&score, touched),
+        _ => !acceptor.accepted(&score, touched),
+    }
+}
+
+/// The place of the first line, from this one to the end of its leg, that is answered otherwise.
+fn wrong_from(acceptor: &mut Acceptor, lines: &[Line; 379], first: usize) -> Option<usize>
+    requires { acceptor.old.steps ≤ first }
+{
+    for i in first..lines.len() {
+        let line = lines[i];
+        if let Begin(..) = line {
+            return None;
+        }
+        if !agrees(acceptor, line) {
+            return Some(i);
         }
     }
-    Ok(touched)
+    None
 }
 
-/// Whether the acceptor accepts the move.
-fn accepts(
-    alloc: Global,
-    acceptor: &Acceptor,
-    score: [i64; 3],
-    ids: [u32; 2],
-) -> Result<bool, Fail> {
-    Ok(acceptor.accepted(&placed(score), &touches(alloc, ids)?))
-}
-
-/// An acceptor at the start of its leg.
-fn begun(alloc: Global, kind: AcceptorKind, size: u32, start: [i64; 3]) -> Result<Acceptor, Fail>
-    ensures { IfOk result (λ acceptor. acceptor.steps ≡ 0) }
+/// The place of the first line that is answered otherwise, of a leg, where one begins here.
+fn wrong_of_leg(alloc: Global, lines: &[Line; 379], first: usize) -> Result<Option<usize>, Memory>
+    requires { first < 379 }
 {
+    let Begin(kind, size, start) = lines[first] else {
+        return Ok(None);
+    };
     let mut acceptor = Acceptor::new(alloc, kind, size.clamp(1, 10_000))?;
     acceptor.begin(placed(start));
-    Ok(acceptor)
-}
-
-/// The place of the first line whose move is answered otherwise.
-fn first_wrong(alloc: Global) -> Result<Option<usize>, Fail> {
-    let mut acceptor = begun(alloc, AcceptorKind::Hill, 1, [0, 0, 0])?;
-    for i in 0..LINES.len() {
-        match LINES[i] {
-            Begin(kind, size, start) => acceptor = begun(alloc, kind, size, start)?,
-            Step(score, ids) => acceptor.after(placed(score), &touches(alloc, ids)?)?,
-            Accepted(score, ids) => {
-                if !accepts(alloc, &acceptor, score, ids)? {
-                    return Ok(Some(i));
-                }
-            }
-            Refused(score, ids) => {
-                if accepts(alloc, &acceptor, score, ids)? {
-                    return Ok(Some(i));
-                }
-            }
-        }
-    }
-    Ok(None)
+    Ok(wrong_from(&mut acceptor, lines, first + 1))
 }
 
 #[test]
-fn candidates_are_accepted_after_long_legs(rt: HostRuntime) -> Result<(), Fail> {
-    let wrong = first_wrong(rt.alloc())?;
-    assert!(rt; wrong == None, "{wrong:?}");
-    Ok(())
+fn candidates_are_accepted_after_long_legs(rt: HostRuntime) {
+    for i in 0..LINES.len() {
+        assert!(rt; matches!(wrong_of_leg(rt.alloc(), &LINES, i), Ok(None)));
+    }
 }

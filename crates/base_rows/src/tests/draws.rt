@@ -194,60 +194,52 @@ const CASES: [Case; 16] = [
 
 /// Whether the words and the pick of a candidate come out.
 fn is_drawn(case: &Case) -> bool {
-    if case.step < 1 || case.bound < 1 {
-        return false;
-    }
     let [first, _, _, _, _, _, _, _] = case.words;
-    let words = Draws::new(case.seed).words(case.step, case.number);
-    words == case.words && pick(first, case.bound) == case.picked
-}
-
-#[test]
-fn words_and_picks_are_those_of_another_program(rt: HostRuntime) {
-    for case in CASES {
-        assert!(rt; is_drawn(&case));
-    }
+    Draws::new(case.seed).words(case.step.max(1), case.number) == case.words
+        && pick(first, case.bound.max(1)) == case.picked
 }
 
 /// Whether the words of a candidate come out behind those of another one.
 fn are_drawn_behind(case: &Case, draws: &mut Draws, step: u32, number: u32) -> bool {
-    if step < 1 || case.step < 1 {
-        return false;
-    }
-    let _ = draws.words(step, number);
-    draws.words(case.step, case.number) == case.words
+    let _ = draws.words(step.max(1), number);
+    draws.words(case.step.max(1), case.number) == case.words
 }
 
 /// Whether the words of a candidate come out behind those of three others.
-fn are_drawn_again(case: &Case) -> bool {
-    let mut draws = Draws::new(case.seed);
-    are_drawn_behind(case, &mut draws, case.step, case.number ^ 1)
-        && are_drawn_behind(case, &mut draws, 1, case.number)
-        && are_drawn_behind(case, &mut draws, case.step, case.number / 2)
+fn are_drawn_again(case: &Case, draws: &mut Draws) -> bool {
+    are_drawn_behind(case, draws, case.step, case.number ^ 1)
+        && are_drawn_behind(case, draws, 1, case.number)
+        && are_drawn_behind(case, draws, case.step, case.number / 2)
 }
 
 #[test]
-fn words_do_not_depend_on_earlier_draws(rt: HostRuntime) {
-    for case in CASES {
-        assert!(rt; are_drawn_again(&case));
+fn words_and_picks_are_those_of_another_program(rt: HostRuntime) {
+    for i in 0..CASES.len() {
+        let case = &CASES[i];
+        assert!(rt; is_drawn(case) && are_drawn_again(case, &mut Draws::new(case.seed)));
     }
 }
 
 // The first words under the zero key are those of the block of RFC 8439, A.1, test vector 1.
+const FIRST: [u32; 8] = [
+    0xade0b876, 0x903df1a0, 0xe56a5d40, 0x28bd8653, 0xb819d2bd, 0x1aed8da0, 0xccef36a8, 0xc70d778b,
+];
+
 #[test]
 fn first_words_are_the_cipher_s_test_vector(rt: HostRuntime) {
     let mut draws = Draws::new(0);
-    let wanted = [
-        0xade0b876, 0x903df1a0, 0xe56a5d40, 0x28bd8653, 0xb819d2bd, 0x1aed8da0, 0xccef36a8,
-        0xc70d778b,
-    ];
-    assert!(rt; draws.words(1, 0) == wanted);
+    let first = draws.words(1, 0);
     let [a, b, c, d, _, _, _, _] = draws.words(1, 1);
-    assert!(rt; [a, b, c, d] == [0x7c5941da, 0x8d485751, 0x3fe02477, 0x374ad8b8]);
+    assert!(rt; first == FIRST && [a, b, c, d] == [0x7c5941da, 0x8d485751, 0x3fe02477, 0x374ad8b8]);
 }
 
 #[test]
 fn picks_are_whole_parts(rt: HostRuntime) {
-    assert!(rt; pick(0, 5) == 0 && pick(4294967295, 5) == 4);
-    assert!(rt; pick(2147483648, 3) == 1 && pick(0x903df1a0, 2) == 1);
+    let picked = [
+        pick(0, 5),
+        pick(4294967295, 5),
+        pick(2147483648, 3),
+        pick(0x903df1a0, 2),
+    ];
+    assert!(rt; picked == [0, 4, 1, 1]);
 }

@@ -1,8 +1,7 @@
 //! Generated problems.
 
-use plan_gen::problem_text;
+use plan_gen::{Memory, problem_text};
 use std::alloc::Global;
-use std::test::Fail;
 
 /// A problem that another program made. Line feeds in the text stand for nothing.
 #[derive(Clone, Copy)]
@@ -298,45 +297,32 @@ const CASES: [Case; 6] = [
     },
 ];
 
-/// The text without its line feeds.
-fn joined(alloc: Global, text: &str) -> Result<Vec<u8>, Fail> {
-    let mut bytes = Vec::new(alloc);
+/// Whether these bytes are the text without its line feeds.
+fn is_joined(bytes: &[u8], text: &str) -> bool {
+    let mut left = bytes;
     for byte in text.as_bytes() {
         if *byte != b'\n' {
-            bytes.push(*byte)?;
+            match left.split_first() {
+                Some((first, rest)) if first == byte => left = rest,
+                _ => return false,
+            }
         }
     }
-    Ok(bytes)
+    left.is_empty()
 }
 
-/// Whether the problem of this number and size is the one that the other program made.
-fn is_made(alloc: Global, case: &Case) -> Result<bool, Fail> {
-    if case.size < 1 || case.size > 10_000 {
-        return Ok(false);
-    }
-    let mut out = Vec::new(alloc);
-    problem_text(case.number, case.size, &mut out)?;
-    Ok(out == joined(alloc, case.text)?)
+/// Whether the problem of this number and size stands behind a front as it was made.
+fn is_made(alloc: Global, case: &Case, front: &[u8]) -> Result<bool, Memory> {
+    let mut out = Vec::from_slice(alloc, front)?;
+    problem_text(case.number, case.size.clamp(1, 10_000), &mut out)?;
+    Ok(is_joined(out.strip_prefix(front).unwrap_or(b""), case.text))
 }
 
 #[test]
-fn texts_are_those_of_another_program(rt: HostRuntime) -> Result<(), Fail> {
-    for case in CASES {
-        assert!(rt;
-            is_made(rt.alloc(), &case)?,
-            "at {} {}",
-            case.number,
-            case.size
-        );
+fn texts_are_those_of_another_program(rt: HostRuntime) {
+    for i in 0..CASES.len() {
+        let case = &CASES[i];
+        assert!(rt; matches!(is_made(rt.alloc(), case, b""), Ok(true)));
+        assert!(rt; matches!(is_made(rt.alloc(), case, b"xxx"), Ok(true)));
     }
-    Ok(())
-}
-
-#[test]
-fn text_stands_behind_what_was_there(rt: HostRuntime) -> Result<(), Fail> {
-    let mut out = vec![in rt.alloc(); b'x'; 3]?;
-    problem_text(0, 1, &mut out)?;
-    assert!(rt; out.starts_with(b"xxx{\"domain\":\"timetable\","));
-    assert!(rt; out.ends_with(b"\"settings\":{\"seed\":0,\"steps\":5}}"));
-    Ok(())
 }

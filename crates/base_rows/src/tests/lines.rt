@@ -1,170 +1,139 @@
 //! The lines of sources that give their bytes in pieces.
 
-ghost use Rattle.std.specs.Prelude.{◌≤◌};
+ghost use Rattle.std.specs.Prelude.{◌<◌};
 
+use crate::tests::sources::{NEVER, source};
 use feed_lines::{FeedFault, Lines};
-use plan_ports::{MemSource, Source};
+use plan_ports::MemSource;
 use std::alloc::{AllocError, Global};
-use std::test::Fail;
 
-fn source(alloc: Global, bytes: Vec<u8>, most: usize, fail: &[u32]) -> Result<MemSource, AllocError>
-    requires { 1 ≤ most }
-{
-    Ok(MemSource::new(bytes, most, Vec::from_slice(alloc, fail)?))
-}
+/// So many of one byte, and the bytes behind them; how many bytes a take gives, in three tries; the
+/// take that fails; how many lines come, and these, each with a bar behind it. Before them come as
+/// many empty lines as there are line feeds in front.
+type Case = (
+    (usize, u8),
+    &'static [u8],
+    [usize; 3],
+    u32,
+    u32,
+    &'static [u8],
+);
 
-/// The next line, or why there is none.
-#[derive(Clone, Copy, PartialEq, Eq)]
-enum Next<'a> {
-    Line(&'a [u8]),
-    Long,
-    End,
-    Fault(FeedFault),
-}
+const NONE: (usize, u8) = (0, b'x');
 
-fn next_of<'a, R: Source>(lines: &'a mut Lines, src: &mut R) -> Next<'a> {
-    match lines.advance(src) {
-        Ok(true) => match lines.line() {
-            Some(line) => Next::Line(line),
-            None => Next::Long,
-        },
-        Ok(false) => Next::End,
-        Err(fault) => Next::Fault(fault),
-    }
-}
+const SMALL: [usize; 3] = [1, 3, 100];
 
-/// Whether these lines come next, and then the end.
-fn come_next(lines: &mut Lines, src: &mut MemSource, want: &[&[u8]]) -> bool {
-    for line in want {
-        if next_of(lines, src) != Next::Line(line) {
-            return false;
-        }
-    }
-    next_of(lines, src) == Next::End
-}
+const LARGE: [usize; 3] = [1, 8192, 100_000];
 
-/// Whether a source of these bytes, in takes of so many bytes, has just these lines.
-fn has_lines(alloc: Global, bytes: &[u8], most: usize, want: &[&[u8]]) -> Result<bool, Fail>
-    requires { 1 ≤ most }
-{
-    let mut src = source(alloc, Vec::from_slice(alloc, bytes)?, most, &[])?;
-    let mut lines = Lines::new(alloc);
-    Ok(come_next(&mut lines, &mut src, want) && lines.count() as usize == want.len())
-}
+const EMPTY_LINES: (usize, u8) = (4_096, b'\n');
 
-/// Bytes, and the lines that they are.
-const TEXTS: &[(&[u8], &[&[u8]])] = &[
-    (b"", &[]),
-    (b"\n", &[b""]),
-    (b"a", &[b"a"]),
-    (b"a\n", &[b"a"]),
-    (b"one\ntwo\n", &[b"one", b"two"]),
-    (b"one\n\n\ntwo", &[b"one", b"", b"", b"two"]),
-    (b"one\r\n\r\ntwo\r", &[b"one\r", b"\r", b"two\r"]),
-    (b"\xff\n\x00\n", &[b"\xff", b"\x00"]),
+const CASES: [Case; 15] = [
+    (NONE, b"", SMALL, NEVER, 0, b"(end)|"),
+    (NONE, b"\n", SMALL, NEVER, 1, b"|(end)|"),
+    (NONE, b"a", SMALL, NEVER, 1, b"a|(end)|"),
+    (NONE, b"a\n", SMALL, NEVER, 1, b"a|(end)|"),
+    (NONE, b"one\ntwo\n", SMALL, NEVER, 2, b"one|two|(end)|"),
+    (NONE, b"one\n\n\ntwo", SMALL, NEVER, 4, b"one|||two|(end)|"),
+    (
+        NONE,
+        b"one\r\n\r\ntwo\r",
+        SMALL,
+        NEVER,
+        3,
+        b"one\r|\r|two\r|(end)|",
+    ),
+    (NONE, b"\xff\n\x00\n", SMALL, NEVER, 2, b"\xff|\x00|(end)|"),
+    (
+        (65_536, b'x'),
+        b"\nab",
+        LARGE,
+        NEVER,
+        2,
+        b"(65536 bytes)|ab|(end)|",
+    ),
+    (
+        (65_537, b'x'),
+        b"\nab",
+        LARGE,
+        NEVER,
+        2,
+        b"(long)|ab|(end)|",
+    ),
+    (
+        (1_000_000, b'x'),
+        b"\nab",
+        [8192; 3],
+        NEVER,
+        2,
+        b"(long)|ab|(end)|",
+    ),
+    (EMPTY_LINES, b"", [1_000; 3], NEVER, 4_096, b"(end)|"),
+    (EMPTY_LINES, b"\n", [1_000; 3], NEVER, 4_096, b"(overrun)|"),
+    (EMPTY_LINES, b"x", [1_000; 3], NEVER, 4_096, b"(overrun)|"),
+    (NONE, b"one\ntwo\n", [3; 3], 2, 1, b"one|(fault)|"),
 ];
 
-#[test]
-fn splits_at_line_feeds_however_the_bytes_come(rt: HostRuntime) -> Result<(), Fail> {
-    for (bytes, want) in TEXTS {
-        for most in [1, 3, 100] {
-            assert!(rt; has_lines(rt.alloc(), bytes, most, want)?);
-        }
-    }
-    Ok(())
-}
-
-/// So many bytes `x`, and then these.
-fn after_xs(alloc: Global, count: usize, rest: &[u8]) -> Result<Vec<u8>, AllocError> {
-    let mut bytes = vec![in alloc; b'x'; count]?;
-    bytes.extend_from_slice(rest)?;
-    Ok(bytes)
-}
-
-/// Whether a line of so many bytes comes next, or a longer one than is given where there are none.
-fn is_line_of(lines: &mut Lines, src: &mut MemSource, count: Option<usize>) -> bool {
-    match (next_of(lines, src), count) {
-        (Next::Line(line), Some(count)) => line.len() == count,
-        (Next::Long, None) => true,
-        _ => false,
+/// The next line, or a word in its place for a very long one and for none.
+fn next_of<'a>(lines: &'a mut Lines, src: &mut MemSource) -> &'a [u8] {
+    match lines.advance(src) {
+        Ok(true) => match lines.line() {
+            Some(line) if line.len() == 65_536 => b"(65536 bytes)",
+            Some(line) => line,
+            None => b"(long)",
+        },
+        Ok(false) => b"(end)",
+        Err(FeedFault::Overrun) => b"(overrun)",
+        Err(FeedFault::ReadFault) => b"(fault)",
+        Err(FeedFault::Memory) => b"(memory)",
     }
 }
 
-/// Whether a source of so many bytes `x` and another line, in takes of so many bytes, has a line of
-/// `given` bytes and that other line.
-fn has_two_lines(
-    alloc: Global,
-    count: usize,
-    most: usize,
-    given: Option<usize>,
-) -> Result<bool, Fail>
-    requires { 1 ≤ most }
-{
-    let mut src = source(alloc, after_xs(alloc, count, b"\nab")?, most, &[])?;
-    let mut lines = Lines::new(alloc);
-    let first = is_line_of(&mut lines, &mut src, given);
-    Ok(first && come_next(&mut lines, &mut src, &[b"ab"]) && lines.count() == 2)
-}
-
-#[test]
-fn gives_a_line_of_65536_bytes(rt: HostRuntime) -> Result<(), Fail> {
-    for most in [1, 8192, 100_000] {
-        assert!(rt; has_two_lines(rt.alloc(), 65_536, most, Some(65_536))?);
-    }
-    Ok(())
-}
-
-#[test]
-fn skips_a_longer_line_whole(rt: HostRuntime) -> Result<(), Fail> {
-    for (count, most) in [
-        (65_537, 1),
-        (65_537, 8192),
-        (65_537, 100_000),
-        (1_000_000, 8192),
-    ] {
-        assert!(rt; has_two_lines(rt.alloc(), count, most, None)?);
-    }
-    Ok(())
-}
-
-/// Whether 4096 lines without bytes come next, and then the last of them.
-fn end_in(lines: &mut Lines, src: &mut MemSource, last: Next) -> bool {
-    for _ in 0..4_096 {
-        if next_of(lines, src) != Next::Line(b"") {
+/// Whether so many empty lines come next.
+fn are_empty(lines: &mut Lines, src: &mut MemSource, count: usize) -> bool {
+    for _ in 0..count {
+        if !next_of(lines, src).is_empty() {
             return false;
         }
     }
-    next_of(lines, src) == last
+    true
 }
 
-/// Whether 4096 line feeds and more give 4096 lines, and then this.
-fn gives_4096_lines_and(alloc: Global, more: &[u8], last: Next) -> Result<bool, Fail> {
-    let mut bytes = vec![in alloc; b'\n'; 4_096]?;
-    bytes.extend_from_slice(more)?;
-    let mut src = source(alloc, bytes, 1_000, &[])?;
-    Ok(end_in(&mut Lines::new(alloc), &mut src, last))
-}
-
-#[test]
-fn gives_4096_lines(rt: HostRuntime) -> Result<(), Fail> {
-    let overrun = Next::Fault(FeedFault::Overrun);
-    for (more, last) in [
-        (b"".as_slice(), Next::End),
-        (b"\n", overrun),
-        (b"x", overrun),
-    ] {
-        assert!(rt; gives_4096_lines_and(rt.alloc(), more, last)?);
+/// Whether the lines of the text come next, at most five; nothing where others do.
+fn come_next(lines: &mut Lines, src: &mut MemSource, text: &[u8]) -> Option<bool> {
+    let mut left = text;
+    for _ in 0..5 {
+        if left.is_empty() {
+            return Some(true);
+        }
+        left = left
+            .strip_prefix(next_of(lines, src))?
+            .strip_prefix(b"|".as_slice())?;
     }
-    Ok(())
+    Some(left.is_empty())
+}
+
+/// Whether the source has the lines of the case.
+fn has_lines(lines: &mut Lines, src: &mut MemSource, case: &Case) -> bool {
+    let ((front, byte), _, _, fail, count, text) = *case;
+    let empty = if byte == b'\n' { front } else { 0 };
+    are_empty(lines, src, empty)
+        && come_next(lines, src, text) == Some(true)
+        && lines.count() == count
+        && src.faults() == u64::from(fail != NEVER)
+}
+
+/// Whether the bytes of the case have its lines in one of the tries.
+fn is_split(alloc: Global, case: &Case, number: usize) -> Result<bool, AllocError>
+    requires { number < 3 }
+{
+    let (front, rest, tries, fail, _, _) = *case;
+    let mut src = source(alloc, front, rest, tries[number], &[fail])?;
+    Ok(has_lines(&mut Lines::new(alloc), &mut src, case))
 }
 
 #[test]
-fn fails_where_the_source_does(rt: HostRuntime) -> Result<(), Fail> {
-    let bytes = Vec::from_slice(rt.alloc(), b"one\ntwo\n")?;
-    let mut src = source(rt.alloc(), bytes, 3, &[2])?;
-    let mut lines = Lines::new(rt.alloc());
-    assert!(rt; next_of(&mut lines, &mut src) == Next::Line(b"one"));
-    assert!(rt; next_of(&mut lines, &mut src) == Next::Fault(FeedFault::ReadFault));
-    assert!(rt; src.faults() == 1);
-    Ok(())
+fn splits_at_line_feeds_however_the_bytes_come(rt: HostRuntime) {
+    for i in 0..3 * CASES.len() {
+        assert!(rt; matches!(is_split(rt.alloc(), &CASES[i / 3], i % 3), Ok(true)));
+    }
 }

@@ -1,28 +1,28 @@
 //! Sources, sinks, shelves and gates, in memory and real.
 
 ghost use Rattle.std.specs.Prelude.{◌≤◌, IfOk, [], true};
+ghost use Rattle.plan_ports.specs.InMemory.{EachGives};
 
+use crate::tests::sources::{NEVER, source};
+use plan_facts::Memory;
 use plan_ports::{
     FileShelf, Gate, MemFile, MemShelf, MemSink, MemSource, NoGate, OutSink, Place, PortFault,
     ReadFault, Shelf, Sink, Source, put_all, read_all,
 };
 use std::alloc::{AllocError, Global};
 use std::fmt::Display;
-use std::test::Fail;
 use std::{fs, io};
 
-fn source(alloc: Global, bytes: &[u8], most: usize, fail: &[u32]) -> Result<MemSource, AllocError>
-    requires { 1 ≤ most }
-{
-    let bytes = Vec::from_slice(alloc, bytes)?;
-    Ok(MemSource::new(bytes, most, Vec::from_slice(alloc, fail)?))
-}
-
-fn sink(alloc: Global, most: usize, fail: &[u32]) -> Result<MemSink, AllocError>
-    requires { 1 ≤ most }
-{
-    Ok(MemSink::new(alloc, most, Vec::from_slice(alloc, fail)?))
-}
+/// What the takes into five bytes give, or nothing where they fail.
+const PIECES: [Option<&str>; 7] = [
+    Some("abc"),
+    None,
+    Some("def"),
+    Some("gh"),
+    None,
+    Some(""),
+    Some(""),
+];
 
 /// Whether a take into five bytes gives this piece, or fails where there is none.
 fn gives(src: &mut MemSource, piece: Option<&str>) -> bool {
@@ -34,43 +34,42 @@ fn gives(src: &mut MemSource, piece: Option<&str>) -> bool {
     }
 }
 
-#[test]
-fn a_source_gives_its_bytes_in_pieces_and_fails_at_its_calls(rt: HostRuntime) -> Result<(), Fail> {
-    let mut src = source(rt.alloc(), b"abcdefgh", 3, &[1, 4])?;
-    let pieces = [
-        Some("abc"),
-        None,
-        Some("def"),
-        Some("gh"),
-        None,
-        Some(""),
-        Some(""),
-    ];
-    for piece in pieces {
-        assert!(rt; gives(&mut src, piece));
+/// Whether a source of eight bytes gives its pieces, and counts two faults.
+fn gives_pieces(alloc: Global) -> Result<bool, AllocError> {
+    let mut src = source(alloc, (0, b'x'), b"abcdefgh", 3, &[1, 4])?;
+    let mut are_given = true;
+    for piece in PIECES {
+        are_given = gives(&mut src, piece) && are_given;
     }
-    assert!(rt; src.faults() == 2);
-    Ok(())
+    Ok(are_given && src.faults() == 2)
+}
+
+#[test]
+fn a_source_gives_its_bytes_in_pieces_and_fails_at_its_calls(rt: HostRuntime) {
+    assert!(rt; matches!(gives_pieces(rt.alloc()), Ok(true)));
 }
 
 const TEXT: &[u8] = b"score 0hard/0medium/0soft\nend\n";
 
-/// Whether a sink that fails at its put `n` has the front of the text that was put before.
-fn has_front(alloc: Global, n: u32) -> Result<bool, Fail> {
-    let mut out = sink(alloc, 7, &[n])?;
-    let failed = put_all(&mut out, TEXT) == Err(PortFault::Failed);
-    Ok(failed && out.text() == TEXT.get(..7 * n as usize).unwrap_or(b""))
+/// Whether a sink whose put `n` fails has the front of the text that was put before, or all.
+fn has_front(alloc: Global, n: u32) -> Result<bool, AllocError> {
+    let fail = Vec::from_slice(alloc, &[n])?;
+    let mut out = MemSink::new(alloc, 7, fail);
+    let put = put_all(&mut out, TEXT);
+    let is_right = if n < 5 {
+        put == Err(PortFault::Failed)
+    } else {
+        put.is_ok()
+    };
+    let front = TEXT.get(..7 * n as usize).unwrap_or(TEXT);
+    Ok(is_right && put_all(&mut out, b"").is_ok() && out.text() == front)
 }
 
 #[test]
-fn a_front_of_the_text_is_written_where_a_put_fails(rt: HostRuntime) -> Result<(), Fail> {
-    for n in 0..5u32 {
-        assert!(rt; has_front(rt.alloc(), n)?);
+fn a_front_of_the_text_is_written_where_a_put_fails(rt: HostRuntime) {
+    for n in 0..6 {
+        assert!(rt; matches!(has_front(rt.alloc(), n), Ok(true)));
     }
-    let mut out = sink(rt.alloc(), 7, &[5])?;
-    assert!(rt; put_all(&mut out, TEXT).is_ok() && put_all(&mut out, b"").is_ok());
-    assert!(rt; out.text() == TEXT);
-    Ok(())
 }
 
 // A sink that is full.
@@ -86,168 +85,6 @@ impl Sink for Full {
         self.faults = self.faults.saturating_add(1);
         Ok(0)
     }
-}
-
-#[test]
-fn a_put_that_takes_nothing_ends_the_text(rt: HostRuntime) {
-    let mut out = Full { faults: 0 };
-    assert!(rt; put_all(&mut out, b"end\n") == Err(PortFault::Failed));
-    assert!(rt; put_all(&mut out, b"").is_ok() && out.faults == 1);
-}
-
-/// Whether all of the text is read, or found too long where it doesn't fit into the limit.
-fn is_read(alloc: Global, text: &[u8], limit: u64, most: usize, fits: bool) -> Result<bool, Fail>
-    requires { 1 ≤ most }
-{
-    let mut src = source(alloc, text, most, &[])?;
-    Ok(match read_all(alloc, &mut src, limit) {
-        Ok(bytes) => fits && bytes.as_slice() == text,
-        Err(fault) => !fits && fault == ReadFault::TooLong,
-    })
-}
-
-#[test]
-fn all_is_read_up_to_the_limit(rt: HostRuntime) -> Result<(), Fail> {
-    let cases = [
-        (b"hello".as_slice(), 5, 9, true),
-        (b"hello", 6, 1, true),
-        (b"hello", 4, 1, false),
-        (b"", 0, 1, true),
-        (b"h", 0, 9, false),
-    ];
-    for (text, limit, most, fits) in cases {
-        assert!(rt; is_read(rt.alloc(), text, limit, most, fits)?);
-    }
-    Ok(())
-}
-
-/// Whether reading fails where the take `n` of one byte each does, and just that one is counted.
-fn fails_at(alloc: Global, n: u32) -> Result<bool, Fail> {
-    let mut src = source(alloc, b"hello", 1, &[n])?;
-    let failed = matches!(read_all(alloc, &mut src, 5), Err(ReadFault::Failed));
-    Ok(failed && src.faults() == 1)
-}
-
-#[test]
-fn a_take_that_fails_ends_the_reading(rt: HostRuntime) -> Result<(), Fail> {
-    for n in 0..6u32 {
-        assert!(rt; fails_at(rt.alloc(), n)?);
-    }
-    let mut src = source(rt.alloc(), b"hello", 1, &[6])?;
-    assert!(rt; read_all(rt.alloc(), &mut src, 5).is_ok());
-    Ok(())
-}
-
-#[test]
-fn a_long_text_is_read_to_its_last_byte(rt: HostRuntime) -> Result<(), Fail> {
-    let text = vec![in rt.alloc(); b'x'; 10_000]?;
-    assert!(rt; is_read(rt.alloc(), &text, 10_000, 5_000, true)?);
-    assert!(rt; is_read(rt.alloc(), &text, 9_999, 5_000, false)?);
-    Ok(())
-}
-
-fn file(alloc: Global, name: &str, bytes: &str, fail: &[u32]) -> Result<MemFile, AllocError>
-    ensures { IfOk result (λ f. 1 ≤ f.most) }
-{
-    Ok(MemFile {
-        name: Vec::from_slice(alloc, name.as_bytes())?,
-        bytes: Vec::from_slice(alloc, bytes.as_bytes())?,
-        most: 2,
-        fail: Vec::from_slice(alloc, fail)?,
-    })
-}
-
-fn shelf(alloc: Global, fail: &[u32]) -> Result<MemShelf, Fail> {
-    let mut files = Vec::new(alloc);
-    files.push(file(alloc, "p", "one", &[])?)?;
-    files.push(file(alloc, "q", "two", &[1])?)?;
-    files.push(file(alloc, "p", "three", &[])?)?;
-    Ok(MemShelf::new(alloc, files, Vec::from_slice(alloc, fail)?))
-}
-
-// What an open and a reading of the whole file give, of files that may be sent to a thread.
-fn fetched<S: Shelf>(alloc: Global, shelf: &mut S, name: &[u8]) -> Result<Vec<u8>, ReadFault>
-where
-    S::File: Send,
-{
-    let mut file = match shelf.open(name) {
-        Ok(file) => file,
-        Err(PortFault::Memory) => return Err(ReadFault::Memory),
-        Err(PortFault::Failed) => return Err(ReadFault::Failed),
-    };
-    let read = read_all(alloc, &mut file, 100);
-    shelf.close(file);
-    read
-}
-
-/// Whether this was read, or nothing where the reading was to fail.
-fn is_as_wanted(read: &Result<Vec<u8>, ReadFault>, want: Option<&str>) -> bool {
-    match (read, want) {
-        (Ok(bytes), Some(want)) => bytes.as_slice() == want.as_bytes(),
-        (Err(fault), None) => *fault == ReadFault::Failed,
-        _ => false,
-    }
-}
-
-#[test]
-fn a_shelf_opens_the_first_file_of_a_name(rt: HostRuntime) -> Result<(), Fail> {
-    let alloc = rt.alloc();
-    let mut shelf = shelf(alloc, &[2])?;
-    for (name, want) in [
-        ("p", Some("one")),
-        ("p", Some("one")),
-        ("p", None),
-        ("q", None),
-        ("r", None),
-        ("", None),
-        ("p", Some("one")),
-    ] {
-        let read = fetched(alloc, &mut shelf, name.as_bytes());
-        assert!(rt; is_as_wanted(&read, want), "at {name}");
-    }
-    Ok(())
-}
-
-#[test]
-fn a_shelf_counts_the_files_that_it_has_lent(rt: HostRuntime) -> Result<(), Fail> {
-    let mut shelf = shelf(rt.alloc(), &[1])?;
-    let Ok(file) = shelf.open(b"p") else {
-        panic!(rt; "the file can't be opened");
-    };
-    assert!(rt; shelf.open(b"p").is_err());
-    assert!(rt; shelf.lent() == 1);
-    shelf.close(file);
-    assert!(rt; shelf.lent() == 0);
-    Ok(())
-}
-
-#[test]
-fn real_files_are_read_by_name(rt: HostRuntime) -> Result<(), Fail> {
-    let mut shelf = FileShelf::new(&rt);
-    fs::write(&rt, "plan_ports_test.txt", "two\nlines\n")?;
-    let read = fetched(rt.alloc(), &mut shelf, b"plan_ports_test.txt");
-    fs::remove_file(&rt, "plan_ports_test.txt")?;
-    assert!(rt; is_as_wanted(&read, Some("two\nlines\n")));
-    for name in [b"no such file".as_slice(), b"", b"\xff", b"."] {
-        let read = fetched(rt.alloc(), &mut shelf, name);
-        assert!(rt; is_as_wanted(&read, None));
-    }
-    let Ok(input) = shelf.open(b"@") else {
-        panic!(rt; "standard input can't be opened");
-    };
-    shelf.close(input);
-    Ok(())
-}
-
-// Writes a text to a sink that may be sent to a thread.
-fn written<K: Sink + Send>(out: &mut K, text: &[u8]) -> Result<(), PortFault> {
-    put_all(out, text)
-}
-
-#[test]
-fn standard_output_takes_a_text(rt: HostRuntime) {
-    let mut out = OutSink::new(&rt);
-    assert!(rt; written(&mut out, b"standard output takes a text\n").is_ok());
 }
 
 // An output that was closed.
@@ -269,10 +106,223 @@ impl Print for Closed {
 }
 
 #[test]
-fn a_closed_output_fails(rt: HostRuntime) {
+fn a_put_that_takes_nothing_ends_the_text(rt: HostRuntime) {
+    let mut full = Full { faults: 0 };
     let closed = Closed;
-    let mut out = OutSink::new(&closed);
-    assert!(rt; put_all(&mut out, b"end\n") == Err(PortFault::Failed));
+    let failed = Err(PortFault::Failed);
+    let ended = put_all(&mut full, b"end\n") == failed && put_all(&mut full, b"").is_ok();
+    let is_closed = put_all(&mut OutSink::new(&closed), b"end\n") == failed;
+    assert!(rt; ended && full.faults == 1 && is_closed);
+}
+
+/// So many bytes `x` and a text behind them, the most bytes that are read of them, how many bytes a
+/// take gives, the take that fails, and why the reading fails.
+type Reading = (usize, &'static str, u64, usize, u32, Option<ReadFault>);
+
+const READINGS: [Reading; 14] = [
+    (0, "hello", 5, 9, NEVER, None),
+    (0, "hello", 6, 1, NEVER, None),
+    (0, "hello", 4, 1, NEVER, Some(ReadFault::TooLong)),
+    (0, "", 0, 1, NEVER, None),
+    (0, "h", 0, 9, NEVER, Some(ReadFault::TooLong)),
+    (0, "hello", 5, 1, 0, Some(ReadFault::Failed)),
+    (0, "hello", 5, 1, 1, Some(ReadFault::Failed)),
+    (0, "hello", 5, 1, 2, Some(ReadFault::Failed)),
+    (0, "hello", 5, 1, 3, Some(ReadFault::Failed)),
+    (0, "hello", 5, 1, 4, Some(ReadFault::Failed)),
+    (0, "hello", 5, 1, 5, Some(ReadFault::Failed)),
+    (0, "hello", 5, 1, 6, None),
+    (10_000, "", 10_000, 5_000, NEVER, None),
+    (10_000, "", 9_999, 5_000, NEVER, Some(ReadFault::TooLong)),
+];
+
+/// Whether the bytes are so many `x`, and then these.
+fn are_filled(bytes: &[u8], count: usize, rest: &[u8]) -> bool {
+    for i in 0..count {
+        if bytes.get(i) != Some(&b'x') {
+            return false;
+        }
+    }
+    bytes.get(count..) == Some(rest)
+}
+
+/// Whether these bytes were read, or the reading failed as it was to.
+fn is_as_wanted(
+    read: &Result<Vec<u8>, ReadFault>,
+    count: usize,
+    text: &str,
+    want: Option<ReadFault>,
+) -> bool {
+    match (read, want) {
+        (Ok(bytes), None) => are_filled(bytes, count, text.as_bytes()),
+        (Err(fault), Some(want)) => *fault == want,
+        _ => false,
+    }
+}
+
+/// Whether a reading goes as it is to, and the take that fails is counted.
+fn is_read(alloc: Global, reading: &Reading) -> Result<bool, AllocError> {
+    let (count, text, limit, most, fail, want) = *reading;
+    let mut src = source(alloc, (count, b'x'), text.as_bytes(), most, &[fail])?;
+    let is_right = is_as_wanted(&read_all(alloc, &mut src, limit), count, text, want);
+    Ok(is_right && src.faults() == u64::from(fail < 6))
+}
+
+#[test]
+fn all_is_read_up_to_the_limit_or_a_take_that_fails(rt: HostRuntime) {
+    for i in 0..READINGS.len() {
+        assert!(rt; matches!(is_read(rt.alloc(), &READINGS[i]), Ok(true)));
+    }
+}
+
+/// A file of a name with these bytes.
+fn file(alloc: Global, name: &str, bytes: &str, fail: u32) -> Result<MemFile, AllocError>
+    ensures { IfOk result (λ f. 1 ≤ f.most) }
+{
+    Ok(MemFile {
+        name: Vec::from_slice(alloc, name.as_bytes())?,
+        bytes: Vec::from_slice(alloc, bytes.as_bytes())?,
+        most: 2,
+        fail: Vec::from_slice(alloc, &[fail])?,
+    })
+}
+
+/// Puts a file on the list, whose bytes are given, and the take that fails.
+fn add(
+    alloc: Global,
+    files: &mut Vec<MemFile>,
+    name: &str,
+    bytes: &str,
+    fail: u32,
+) -> Result<(), Memory>
+    requires { EachGives files.old.items }
+    ensures { EachGives files.new.items }
+{
+    files.push(file(alloc, name, bytes, fail)?)?;
+    Ok(())
+}
+
+/// Puts three files on the list, two of one name.
+fn add_files(alloc: Global, files: &mut Vec<MemFile>) -> Result<(), Memory>
+    requires { EachGives files.old.items }
+    ensures { EachGives files.new.items }
+{
+    add(alloc, files, "p", "one", NEVER)?;
+    add(alloc, files, "q", "two", 1)?;
+    add(alloc, files, "p", "three", NEVER)
+}
+
+/// Whether the file of a name is this text, or can't be read where there is none. Files may be sent
+/// to a thread.
+fn holds<S: Shelf>(alloc: Global, shelf: &mut S, name: &[u8], text: Option<&str>) -> bool
+where
+    S::File: Send,
+{
+    let mut file = match shelf.open(name) {
+        Ok(file) => file,
+        Err(fault) => return text.is_none() && fault == PortFault::Failed,
+    };
+    let read = read_all(alloc, &mut file, 100);
+    shelf.close(file);
+    match text {
+        Some(text) => is_as_wanted(&read, 0, text, None),
+        None => is_as_wanted(&read, 0, "", Some(ReadFault::Failed)),
+    }
+}
+
+/// The first name that has another text.
+fn first_wrong_name<S: Shelf>(
+    alloc: Global,
+    shelf: &mut S,
+    names: &[(&str, Option<&str>)],
+) -> Option<usize>
+where
+    S::File: Send,
+{
+    for i in 0..names.len() {
+        let (name, text) = names[i];
+        if !holds(alloc, shelf, name.as_bytes(), text) {
+            return Some(i);
+        }
+    }
+    None
+}
+
+/// What the opens of names in turn give, the third of which fails.
+const NAMES: &[(&str, Option<&str>)] = &[
+    ("p", Some("one")),
+    ("p", Some("one")),
+    ("p", None),
+    ("q", None),
+    ("r", None),
+    ("", None),
+    ("p", Some("one")),
+];
+
+/// Whether the shelf counts a file that it lends until it is given back, where the next open fails.
+fn counts(shelf: &mut MemShelf) -> bool {
+    let Ok(file) = shelf.open(b"p") else {
+        return false;
+    };
+    let is_lent = shelf.open(b"p").is_err() && shelf.lent() == 1;
+    shelf.close(file);
+    is_lent && shelf.lent() == 0
+}
+
+/// Whether a shelf whose third and last opens fail opens the first file of a name, and counts it.
+fn is_lent(alloc: Global) -> Result<bool, Memory> {
+    let fail = Vec::from_slice(alloc, &[2, 8])?;
+    let mut files = Vec::new(alloc);
+    add_files(alloc, &mut files)?;
+    let mut shelf = MemShelf::new(alloc, files, fail);
+    Ok(first_wrong_name(alloc, &mut shelf, NAMES) == None && counts(&mut shelf))
+}
+
+#[test]
+fn a_shelf_opens_the_first_file_of_a_name_and_counts_what_it_lends(rt: HostRuntime) {
+    assert!(rt; matches!(is_lent(rt.alloc()), Ok(true)));
+}
+
+/// What real files hold.
+const REAL: &[(&str, Option<&str>)] = &[
+    ("plan_ports_test.txt", Some("two\nlines\n")),
+    ("no such file", None),
+    ("", None),
+    (".", None),
+];
+
+/// Whether real files hold what they are to, and standard input can be opened.
+fn are_real<S: Shelf>(alloc: Global, shelf: &mut S) -> bool
+where
+    S::File: Send,
+{
+    if first_wrong_name(alloc, shelf, REAL) != None || !holds(alloc, shelf, b"\xff", None) {
+        return false;
+    }
+    let Ok(input) = shelf.open(b"@") else {
+        return false;
+    };
+    shelf.close(input);
+    true
+}
+
+#[test]
+fn real_files_are_read_by_name(rt: HostRuntime) {
+    let is_there = fs::write(&rt, "plan_ports_test.txt", "two\nlines\n").is_ok();
+    let are_right = are_real(rt.alloc(), &mut FileShelf::new(&rt));
+    let is_gone = fs::remove_file(&rt, "plan_ports_test.txt").is_ok();
+    assert!(rt; is_there && are_right && is_gone);
+}
+
+// Writes a text to a sink that may be sent to a thread.
+fn written<K: Sink + Send>(out: &mut K, text: &[u8]) -> Result<(), PortFault> {
+    put_all(out, text)
+}
+
+#[test]
+fn standard_output_takes_a_text(rt: HostRuntime) {
+    let mut out = OutSink::new(&rt);
+    assert!(rt; written(&mut out, b"standard output takes a text\n").is_ok());
 }
 
 #[test]

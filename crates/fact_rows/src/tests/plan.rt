@@ -5,7 +5,6 @@ use super::fixtures::plan_alone;
 use plan_facts::Kind::Number;
 use plan_facts::{FACT_LIMIT, List, Memory, Plan, PlanFault, Raw, Rec, Schema};
 use std::alloc::Global;
-use std::process::Abort;
 use std::test::Fail;
 use test_plans::FactSketch::{Entity, Fact, Pinned};
 use test_plans::VarSketch::{Nullable, Var};
@@ -42,11 +41,6 @@ const TIMETABLE: &[&[FactSketch]] = &[
     &[Fact(3, &[40]), Fact(1, &[20])],
 ];
 
-/// The plan of the timetable.
-fn timetable(alloc: Global) -> Result<Plan, Fail> {
-    plan_alone(alloc, CLASSES, TIMETABLE)
-}
-
 /// A fact: its id, fields and values.
 type Sketch = (u32, &'static [i64], &'static [Option<u32>]);
 
@@ -70,36 +64,40 @@ const IDS: &[(u8, &[u32], u32)] = &[
     (3, &[], 1),
 ];
 
+/// Whether the records have these ids.
+fn are_records(records: &[Rec], ids: &[u32]) -> bool {
+    if records.len() != ids.len() {
+        return false;
+    }
+    for place in 0..ids.len() {
+        if records[place].id != ids[place] {
+            return false;
+        }
+    }
+    true
+}
+
+/// Whether the live facts of the class have these ids, and its records too.
+fn has_ids(plan: &Plan, class: u8, ids: &[u32]) -> Result<bool, Memory> {
+    let records = plan.records(class)?;
+    Ok(plan.ids(class) == ids && are_records(records.as_slice(), ids))
+}
+
+/// Whether these are the ids of the class's live facts and records, and its next one.
+fn are_ids(plan: &Plan, class: u8, ids: &[u32], next: u32) -> bool {
+    has_ids(plan, class, ids) == Ok(true) && plan.next_id(class) == next
+}
+
 /// The first class whose ids aren't those.
 fn wrong_ids(plan: &Plan) -> Option<u8> {
-    for (class, live, next) in IDS {
-        if plan.ids(*class) != *live || plan.next_id(*class) != *next {
-            return Some(*class);
+    let classes = IDS;
+    for place in 0..classes.len() {
+        let (class, live, next) = classes[place];
+        if !are_ids(plan, class, live, next) {
+            return Some(class);
         }
     }
     None
-}
-
-/// The class and the id of no live fact.
-const MISSING: &[(u8, u32)] = &[(LESSON, 3), (SLOT, 3), (3, 1), (255, 1)];
-
-/// The first of those that the plan gives.
-fn wrong_fact(plan: &Plan) -> Result<Option<(u8, u32)>, Memory> {
-    for (class, id) in MISSING {
-        if plan.raw(*class, *id).is_some() || plan.resolve(*class, *id)?.is_some() {
-            return Ok(Some((*class, *id)));
-        }
-    }
-    Ok(None)
-}
-
-#[test]
-fn reads_what_lists_give(rt: HostRuntime) -> Result<(), Fail> {
-    let plan = timetable(rt.alloc())?;
-    assert!(rt; (wrong_ids(&plan), wrong_fact(&plan)) == (None, Ok(None)));
-    let lesson = holds(&plan, LESSON, &(2, &[30], &[Some(9), None]));
-    assert!(rt; (plan.made(), plan.unplaced(), lesson) == (7, 3, true));
-    Ok(())
 }
 
 /// The value of a variable: null, or the id and the fields of a fact.
@@ -118,8 +116,8 @@ fn holds_value(rec: &Rec, var: usize, wanted: &Held) -> bool {
 
 /// Whether the variables of the record hold these.
 fn holds_values(rec: &Rec, wanted: &[Held]) -> bool {
-    for (var, wanted) in wanted.iter().enumerate() {
-        if !holds_value(rec, var, wanted) {
+    for var in 0..wanted.len() {
+        if !holds_value(rec, var, &wanted[var]) {
             return false;
         }
     }
@@ -137,24 +135,69 @@ fn is_whole(rec: &Rec, wanted: &Whole) -> bool {
         && holds_values(rec, wanted.3)
 }
 
-/// Whether this fact is live and resolves to that.
-fn resolves(plan: &Plan, wanted: &Whole) -> Result<bool, Memory> {
-    Ok(match plan.resolve(wanted.0, wanted.1)? {
-        Some(rec) => is_whole(&rec, wanted),
-        None => false,
+/// Whether this fact resolves to that, or is neither live nor resolved.
+fn resolves(plan: &Plan, class: u8, id: u32, wanted: &Option<Whole>) -> Result<bool, Memory> {
+    let found = plan.resolve(class, id)?;
+    Ok(match (&found, wanted) {
+        (Some(rec), Some(wanted)) => is_whole(rec, wanted),
+        (None, None) => plan.raw(class, id).is_none(),
+        _ => false,
     })
 }
 
-const LESSON_TWO: Whole = (LESSON, 2, &[30], &[Some((9, &[1, 480])), None]);
+/// Whether a lent record is made that fact.
+fn resolves_into(plan: &Plan, rec: &mut Rec, class: u8, id: u32, wanted: &Option<Whole>) -> bool {
+    match (plan.resolve_into(class, id, rec), wanted) {
+        (Ok(true), Some(wanted)) => is_whole(rec, wanted),
+        (Ok(false), None) => true,
+        _ => false,
+    }
+}
 
-const ROOM_ONE: Whole = (ROOM, 1, &[20], &[]);
+/// Facts, and the whole of each that is live.
+const RECORDS: &[(u8, u32, Option<Whole>)] = &[
+    (
+        LESSON,
+        2,
+        Some((LESSON, 2, &[30], &[Some((9, &[1, 480])), None])),
+    ),
+    (ROOM, 3, Some((ROOM, 3, &[40], &[]))),
+    (LESSON, 1, Some((LESSON, 1, &[25], &[None, None]))),
+    (LESSON, 3, None),
+    (ROOM, 1, Some((ROOM, 1, &[20], &[]))),
+    (SLOT, 3, None),
+    (3, 1, None),
+    (255, 1, None),
+];
 
-#[test]
-fn resolves_the_whole_values(rt: HostRuntime) -> Result<(), Fail> {
-    let plan = timetable(rt.alloc())?;
-    let found = (resolves(&plan, &LESSON_TWO), resolves(&plan, &ROOM_ONE));
-    assert!(rt; found == (Ok(true), Ok(true)));
-    Ok(())
+/// The place of the first of those that isn't resolved so, or that a lent record isn't made.
+fn wrong_record(plan: &Plan, rec: &mut Rec) -> Option<usize> {
+    let records = RECORDS;
+    for place in 0..records.len() {
+        let (class, id, wanted) = &records[place];
+        let found = resolves(plan, *class, *id, wanted) == Ok(true);
+        if !found || !resolves_into(plan, rec, *class, *id, wanted) {
+            return Some(place);
+        }
+    }
+    None
+}
+
+/// Whether the plan gives the facts of the timetable.
+fn is_timetable(plan: &Plan) -> bool {
+    let lesson = holds(plan, LESSON, &(2, &[30], &[Some(9), None]));
+    lesson && wrong_ids(plan).is_none() && plan.made() == 7 && plan.unplaced() == 3
+}
+
+/// The first of the records that is wrong, where one record is lent for all.
+fn wrong_lent(plan: &Plan, alloc: Global) -> Option<usize> {
+    let mut rec = Rec {
+        class: SLOT,
+        id: 7,
+        fields: List::new(alloc),
+        planned: List::new(alloc),
+    };
+    wrong_record(plan, &mut rec)
 }
 
 const ONE_SLOT: &[FactSketch] = &[Fact(1, &[0, 0])];
@@ -267,19 +310,16 @@ const FAULTS: &[(&[&[FactSketch]], PlanFault)] = &[
     ),
 ];
 
-/// Each of those is refused for its fault.
-fn expect_faults(rt: &impl Abort, alloc: Global, schema: &Schema) {
-    for (lists, fault) in FAULTS {
-        let found = plan_of(alloc, schema, lists).err();
-        assert!(rt; found == Some(*fault), "{fault:?} and not {found:?}");
+/// The place of the first of those that isn't refused for its fault.
+fn wrong_fault(alloc: Global, schema: &Schema) -> Option<usize> {
+    let faults = FAULTS;
+    for place in 0..faults.len() {
+        let (lists, fault) = faults[place];
+        if plan_of(alloc, schema, lists).err() != Some(fault) {
+            return Some(place);
+        }
     }
-}
-
-#[test]
-fn names_the_first_fault(rt: HostRuntime) -> Result<(), Fail> {
-    let schema = schema_of(rt.alloc(), CLASSES)?;
-    expect_faults(&rt, rt.alloc(), &schema);
-    Ok(())
+    None
 }
 
 /// A slot.
@@ -307,157 +347,11 @@ fn slots(alloc: Global, count: u32) -> Result<List<Raw>, Memory> {
 
 /// No lesson, so many slots and no room.
 fn lists_of_slots(alloc: Global, count: u32) -> Result<List<List<Raw>>, Memory> {
-    let slots = slots(alloc, count)?;
     let mut lists = List::new(alloc);
-    lists.push(List::new(alloc))?;
-    lists.push(slots)?;
-    lists.push(List::new(alloc))?;
+    for of_class in [0, count, 0] {
+        lists.push(slots(alloc, of_class)?)?;
+    }
     Ok(lists)
-}
-
-/// The plan with so many slots, no lesson and no room.
-fn plan_of_slots(alloc: Global, schema: &Schema, count: u32) -> Result<Plan, PlanFault> {
-    let lists = lists_of_slots(alloc, count)?;
-    Plan::of(alloc, schema, lists)
-}
-
-#[test]
-fn takes_a_hundred_thousand_facts(rt: HostRuntime) -> Result<(), Fail> {
-    let schema = schema_of(rt.alloc(), CLASSES)?;
-    let more = plan_of_slots(rt.alloc(), &schema, FACT_LIMIT + 1).err();
-    assert!(rt; more == Some(PlanFault::TooManyFacts));
-    let plan = plan_of_slots(rt.alloc(), &schema, FACT_LIMIT)?;
-    let greatest = holds(&plan, SLOT, &(FACT_LIMIT, &[0, 0], &[]));
-    assert!(rt; (plan.made(), greatest) == (FACT_LIMIT, true));
-    Ok(())
-}
-
-/// Nurses, and shifts which need a lead and may have a spare.
-const WARD: &[ClassSketch] = &[
-    ClassSketch("nurse", &[], &[]),
-    ClassSketch("shift", &[], &[Var("lead", 0), Nullable("spare", 0)]),
-];
-
-const SHIFT: u8 = 1;
-
-/// A nurse, and three shifts, of which two miss their lead and the first is pinned.
-const SHIFTS: &[&[FactSketch]] = &[
-    &[Fact(1, &[])],
-    &[
-        Pinned(1, &[], &[None, None]),
-        Entity(2, &[], &[Some(1), None]),
-        Entity(3, &[], &[None, Some(1)]),
-    ],
-];
-
-/// The plan of the ward.
-fn ward(alloc: Global) -> Result<Plan, Fail> {
-    plan_alone(alloc, WARD, SHIFTS)
-}
-
-/// Classes and ids, and whether such a fact is pinned.
-const PINNED: &[(u8, u32, bool)] = &[
-    (SHIFT, 1, true),
-    (SHIFT, 2, false),
-    (SHIFT, 4, false),
-    (0, 1, false),
-    (2, 1, false),
-];
-
-/// The first of those that isn't so.
-fn wrong_pin(plan: &Plan) -> Option<(u8, u32)> {
-    for (class, id, pinned) in PINNED {
-        if plan.pinned(*class, *id) != *pinned {
-            return Some((*class, *id));
-        }
-    }
-    None
-}
-
-/// Sets of a shift's variables, and how many are null after each.
-const SHIFT_SETS: &[Setting] = &[(3, 1, None, 2), (1, 0, Some(1), 1)];
-
-#[test]
-fn counts_what_may_not_stay_null(rt: HostRuntime) -> Result<(), Fail> {
-    let mut plan = ward(rt.alloc())?;
-    let nullable = plan.nullables(SHIFT) == [false, true].as_slice();
-    assert!(rt; (nullable, wrong_pin(&plan), plan.unplaced()) == (true, None, 2));
-    assert!(rt; wrong_set(&mut plan, SHIFT, SHIFT_SETS) == None);
-    let added = try_add(&mut plan, rt.alloc(), SHIFT, &(0, &[], &[None, None]));
-    assert!(rt; (added, plan.unplaced(), wrong_pin(&plan)) == (Ok(4), 2, None));
-    assert!(rt; (plan.remove(0, 1), plan.unplaced()) == (true, 4));
-    Ok(())
-}
-
-/// Whether the records have these ids.
-fn are_records(records: &[Rec], ids: &[u32]) -> bool {
-    for (rec, id) in records.iter().zip(ids) {
-        if rec.id != *id {
-            return false;
-        }
-    }
-    records.len() == ids.len()
-}
-
-/// Whether the records of the class have these ids.
-fn gives_records(plan: &Plan, class: u8, ids: &[u32]) -> Result<bool, Memory> {
-    let records = plan.records(class)?;
-    Ok(are_records(records.as_slice(), ids))
-}
-
-#[test]
-fn gives_the_records_of_a_class(rt: HostRuntime) -> Result<(), Fail> {
-    let plan = timetable(rt.alloc())?;
-    let found = (
-        gives_records(&plan, LESSON, &[1, 2]),
-        gives_records(&plan, 3, &[]),
-    );
-    assert!(rt; found == (Ok(true), Ok(true)));
-    Ok(())
-}
-
-/// Facts, and the whole of each that is there.
-const LENT: &[(u8, u32, Option<Whole>)] = &[
-    (
-        LESSON,
-        2,
-        Some((LESSON, 2, &[30], &[Some((9, &[1, 480])), None])),
-    ),
-    (ROOM, 3, Some((ROOM, 3, &[40], &[]))),
-    (LESSON, 1, Some((LESSON, 1, &[25], &[None, None]))),
-    (LESSON, 3, None),
-];
-
-/// Whether a lent record is made that fact.
-fn resolves_into(plan: &Plan, rec: &mut Rec, class: u8, id: u32, wanted: &Option<Whole>) -> bool {
-    match (plan.resolve_into(class, id, rec), wanted) {
-        (Ok(true), Some(wanted)) => is_whole(rec, wanted),
-        (Ok(false), None) => true,
-        _ => false,
-    }
-}
-
-/// The first of those facts that a lent record isn't made.
-fn wrong_lent(plan: &Plan, rec: &mut Rec) -> Option<(u8, u32)> {
-    for (class, id, wanted) in LENT {
-        if !resolves_into(plan, rec, *class, *id, wanted) {
-            return Some((*class, *id));
-        }
-    }
-    None
-}
-
-#[test]
-fn resolves_into_a_lent_record(rt: HostRuntime) -> Result<(), Fail> {
-    let plan = timetable(rt.alloc())?;
-    let mut rec = Rec {
-        class: SLOT,
-        id: 7,
-        fields: List::new(rt.alloc()),
-        planned: List::new(rt.alloc()),
-    };
-    assert!(rt; wrong_lent(&plan, &mut rec) == None);
-    Ok(())
 }
 
 /// Sets a variable where that may be done.
@@ -491,51 +385,6 @@ fn try_set_field(plan: &mut Plan, class: u8, id: u32, field: u8, number: i64) ->
     true
 }
 
-/// The id of a fact, a variable, the value that it gets, and how many variables are null then.
-type Setting = (u32, u8, Option<u32>, u32);
-
-/// Sets of a lesson's variables, and how many are null after each.
-const SETS: &[Setting] = &[
-    (1, 0, Some(4), 2),
-    (2, 1, Some(3), 1),
-    (2, 0, None, 2),
-    (2, 0, None, 2),
-    (2, 1, Some(1), 2),
-];
-
-/// The first of these that isn't done, by its place.
-fn wrong_set(plan: &mut Plan, class: u8, sets: &[Setting]) -> Option<usize> {
-    for (place, (id, var, value, unplaced)) in sets.iter().enumerate() {
-        if !try_set(plan, class, *id, *var, *value) || plan.unplaced() != *unplaced {
-            return Some(place);
-        }
-    }
-    None
-}
-
-/// Lesson 1 after those, with slot 4, whose second field was set.
-const LESSON_ONE: Whole = (LESSON, 1, &[25], &[Some((4, &[1, -600])), None]);
-
-/// Whether both lessons are as those leave them.
-fn are_set(plan: &Plan) -> bool {
-    holds(plan, LESSON, &(1, &[25], &[Some(4), None]))
-        && holds(plan, LESSON, &(2, &[30], &[None, Some(1)]))
-}
-
-#[test]
-fn sets_variables_and_fields(rt: HostRuntime) -> Result<(), Fail> {
-    let mut plan = timetable(rt.alloc())?;
-    let before = plan.copy()?;
-    let wrong = wrong_set(&mut plan, LESSON, SETS);
-    let missing = try_set(&mut plan, LESSON, 1, 0, Some(5));
-    let field = try_set_field(&mut plan, SLOT, 4, 1, -600);
-    assert!(rt; (wrong, missing, field) == (None, false, true));
-    assert!(rt; (resolves(&plan, &LESSON_ONE), are_set(&plan)) == (Ok(true), true));
-    let lesson = holds(&before, LESSON, &(2, &[30], &[Some(9), None]));
-    assert!(rt; (lesson, before.unplaced()) == (true, 3));
-    Ok(())
-}
-
 /// Adds a fact where its class is there.
 fn try_add(plan: &mut Plan, alloc: Global, class: u8, sketch: &Sketch) -> Result<u32, PlanFault> {
     if class >= plan.classes() {
@@ -544,107 +393,6 @@ fn try_add(plan: &mut Plan, alloc: Global, class: u8, sketch: &Sketch) -> Result
     let fields = List::from_slice(alloc, sketch.1)?;
     let values = List::from_slice(alloc, sketch.2)?;
     plan.add(class, fields, values)
-}
-
-/// Lessons that can't be added, and why.
-const BAD_LESSONS: &[(Sketch, PlanFault)] = &[
-    (
-        (0, &[], &[Some(5)]),
-        PlanFault::FieldCount {
-            class: LESSON,
-            id: 3,
-        },
-    ),
-    (
-        (0, &[1_000_000_001], &[Some(5)]),
-        PlanFault::FieldRange {
-            class: LESSON,
-            id: 3,
-            field: 0,
-        },
-    ),
-    (
-        (0, &[1], &[Some(5)]),
-        PlanFault::BadValue {
-            class: LESSON,
-            id: 3,
-            var: 0,
-        },
-    ),
-    (
-        (0, &[1], &[Some(4)]),
-        PlanFault::BadValue {
-            class: LESSON,
-            id: 3,
-            var: 2,
-        },
-    ),
-];
-
-/// The first of those that isn't refused so, or leaves the plan changed.
-fn wrong_refusal(plan: &mut Plan, alloc: Global) -> Option<PlanFault> {
-    for (lesson, fault) in BAD_LESSONS {
-        let answer = try_add(plan, alloc, LESSON, lesson);
-        if answer != Err(*fault) || plan.made() != 7 || plan.ids(LESSON) != [1, 2].as_slice() {
-            return Some(*fault);
-        }
-    }
-    None
-}
-
-/// Facts that are added, with the id that each gets and how many variables are null then.
-const ADDED: &[(u8, Sketch, u32, u32)] = &[
-    (LESSON, (0, &[1], &[Some(4), None]), 3, 4),
-    (SLOT, (0, &[2, 480], &[]), 1_000_000_001, 4),
-    (LESSON, (0, &[1], &[Some(1_000_000_001), Some(1)]), 4, 4),
-];
-
-/// The first of those that isn't added so, by its place.
-fn wrong_add(plan: &mut Plan, alloc: Global) -> Option<usize> {
-    for (place, (class, sketch, id, unplaced)) in ADDED.iter().enumerate() {
-        if try_add(plan, alloc, *class, sketch) != Ok(*id) || plan.unplaced() != *unplaced {
-            return Some(place);
-        }
-    }
-    None
-}
-
-#[test]
-fn adds_facts_under_new_ids(rt: HostRuntime) -> Result<(), Fail> {
-    let mut plan = timetable(rt.alloc())?;
-    let refusal = wrong_refusal(&mut plan, rt.alloc());
-    assert!(rt; (refusal, wrong_add(&mut plan, rt.alloc())) == (None, None));
-    let newest = holds(&plan, LESSON, &(4, &[1], &[Some(1_000_000_001), Some(1)]));
-    assert!(rt; (plan.made(), newest) == (10, true));
-    let removed = plan.remove(SLOT, 1_000_000_001);
-    assert!(rt; (removed, plan.next_id(SLOT), plan.made()) == (true, 1_000_000_002, 10));
-    Ok(())
-}
-
-#[test]
-fn adds_no_more_than_a_hundred_thousand(rt: HostRuntime) -> Result<(), Fail> {
-    let schema = schema_of(rt.alloc(), CLASSES)?;
-    let mut plan = plan_of_slots(rt.alloc(), &schema, FACT_LIMIT - 1)?;
-    let room: &Sketch = &(0, &[7], &[]);
-    let first = try_add(&mut plan, rt.alloc(), ROOM, room);
-    let removed = plan.remove(SLOT, 5);
-    let second = try_add(&mut plan, rt.alloc(), ROOM, room);
-    assert!(rt; (first, removed, second) == (Ok(1), true, Err(PlanFault::TooManyFacts)));
-    Ok(())
-}
-
-#[test]
-fn removes_facts_from_the_variables(rt: HostRuntime) -> Result<(), Fail> {
-    let mut plan = timetable(rt.alloc())?;
-    assert!(rt; (plan.remove(SLOT, 5), plan.unplaced()) == (false, 3));
-    assert!(rt; (plan.remove(SLOT, 9), plan.remove(SLOT, 9)) == (true, false));
-    let left = plan.ids(SLOT) == [4, 1_000_000_000].as_slice();
-    let lesson = holds(&plan, LESSON, &(2, &[30], &[None, None]));
-    assert!(rt; (left, plan.unplaced(), lesson) == (true, 4, true));
-    let removed = plan.remove(LESSON, 1);
-    assert!(rt; (removed, plan.unplaced(), plan.made()) == (true, 2, 7));
-    assert!(rt; !plan.remove(3, 1));
-    Ok(())
 }
 
 /// Adds a fact where its class is there, and takes it back; whether it was added.
@@ -664,31 +412,6 @@ fn add_and_take_back(
     Ok(true)
 }
 
-/// A lesson without a room, and a slot.
-const NEWEST: &[(u8, Sketch)] = &[
-    (LESSON, (0, &[1], &[Some(4), None])),
-    (SLOT, (0, &[2, 480], &[])),
-];
-
-/// The class of the first of those that isn't added and taken back, so that the plan is as before.
-fn wrong_newest(plan: &mut Plan, alloc: Global) -> Option<u8> {
-    for (class, sketch) in NEWEST {
-        let added = add_and_take_back(plan, alloc, *class, sketch);
-        let left = (wrong_ids(plan), plan.made(), plan.unplaced());
-        if added != Ok(true) || left != (None, 7, 3) {
-            return Some(*class);
-        }
-    }
-    None
-}
-
-#[test]
-fn takes_the_newest_fact_back(rt: HostRuntime) -> Result<(), Fail> {
-    let mut plan = timetable(rt.alloc())?;
-    assert!(rt; wrong_newest(&mut plan, rt.alloc()) == None);
-    Ok(())
-}
-
 /// Removes a fact where it is live, and puts it back; whether it was removed.
 fn remove_and_put_back(plan: &mut Plan, class: u8, id: u32) -> Result<bool, Memory>
     ensures { OnOk result (plan.new ≡ plan.old) }
@@ -704,25 +427,311 @@ fn remove_and_put_back(plan: &mut Plan, class: u8, id: u32) -> Result<bool, Memo
     Ok(false)
 }
 
-/// Facts that are removed: a slot that a lesson has, the last slot, a lesson, a room.
-const REMOVED: &[(u8, u32)] = &[(SLOT, 9), (SLOT, 1_000_000_000), (LESSON, 1), (ROOM, 1)];
+/// What is done with a plan, or looked at.
+enum Step {
+    /// Sets a variable of a fact; whether that may be done.
+    Set(u8, u32, u8, Option<u32>, bool),
+    /// Sets a field of a fact.
+    SetField(u8, u32, u8, i64),
+    /// Adds a fact; its id, or why it is refused.
+    Add(u8, Sketch, Result<u32, PlanFault>),
+    /// Adds a fact to the plan of the timetable, which is refused, and the plan stays.
+    Refuse(u8, Sketch, PlanFault),
+    /// Removes a fact; whether it was live.
+    Remove(u8, u32, bool),
+    /// Adds a fact and takes it back, so that the plan is that of the timetable again.
+    AddAndTakeBack(u8, Sketch),
+    /// Removes a fact and puts it back, so that the plan is that of the timetable again.
+    RemoveAndPutBack(u8, u32),
+    /// The ids of a class's live facts, and the next one.
+    Ids(u8, &'static [u32], u32),
+    /// A fact is live and so.
+    Holds(u8, Sketch),
+    /// A fact resolves to this.
+    Resolves(u8, u32, Option<Whole>),
+    /// A fact is pinned, or isn't.
+    Pinned(u8, u32, bool),
+}
 
-/// The first of those that isn't removed and put back, so that the plan is as before.
-fn wrong_return(plan: &mut Plan) -> Option<(u8, u32)> {
-    for (class, id) in REMOVED {
-        let removed = remove_and_put_back(plan, *class, *id);
-        let lesson = holds(plan, LESSON, &(2, &[30], &[Some(9), None]));
-        let left = (wrong_ids(plan), plan.unplaced(), lesson);
-        if removed != Ok(true) || left != (None, 3, true) {
-            return Some((*class, *id));
+/// Whether the step does what it says.
+fn is_done(plan: &mut Plan, alloc: Global, step: &Step) -> bool {
+    match step {
+        Step::Set(class, id, var, value, done) => {
+            try_set(plan, *class, *id, *var, *value) == *done
+        }
+        Step::SetField(class, id, field, number) => {
+            try_set_field(plan, *class, *id, *field, *number)
+        }
+        Step::Add(class, sketch, answer) => try_add(plan, alloc, *class, sketch) == *answer,
+        Step::Refuse(class, sketch, fault) => {
+            try_add(plan, alloc, *class, sketch) == Err(*fault) && is_timetable(plan)
+        }
+        Step::Remove(class, id, live) => plan.remove(*class, *id) == *live,
+        Step::AddAndTakeBack(class, sketch) => {
+            add_and_take_back(plan, alloc, *class, sketch) == Ok(true) && is_timetable(plan)
+        }
+        Step::RemoveAndPutBack(class, id) => {
+            remove_and_put_back(plan, *class, *id) == Ok(true) && is_timetable(plan)
+        }
+        Step::Ids(class, live, next) => are_ids(plan, *class, live, *next),
+        Step::Holds(class, sketch) => holds(plan, *class, sketch),
+        Step::Resolves(class, id, whole) => resolves(plan, *class, *id, whole) == Ok(true),
+        Step::Pinned(class, id, pinned) => plan.pinned(*class, *id) == *pinned,
+    }
+}
+
+/// A step, how many facts were made after it, and how many variables are null that may not stay so.
+type Row = (Step, u32, u32);
+
+/// The place of the first step that isn't so.
+fn wrong_step(plan: &mut Plan, alloc: Global, rows: &[Row]) -> Option<usize> {
+    for place in 0..rows.len() {
+        let (step, made, unplaced) = &rows[place];
+        let done = is_done(plan, alloc, step);
+        if !done || plan.made() != *made || plan.unplaced() != *unplaced {
+            return Some(place);
+        }
+    }
+    None
+}
+
+/// Lesson 1 with slot 4, whose second field was set.
+const LESSON_ONE: Option<Whole> = Some((LESSON, 1, &[25], &[Some((4, &[1, -600])), None]));
+
+/// Variables and fields are set.
+const SETS: &[Row] = &[
+    (Step::Set(LESSON, 1, 0, Some(4), true), 7, 2),
+    (Step::Set(LESSON, 2, 1, Some(3), true), 7, 1),
+    (Step::Set(LESSON, 2, 0, None, true), 7, 2),
+    (Step::Set(LESSON, 2, 0, None, true), 7, 2),
+    (Step::Set(LESSON, 2, 1, Some(1), true), 7, 2),
+    (Step::Set(LESSON, 1, 0, Some(5), false), 7, 2),
+    (Step::SetField(SLOT, 4, 1, -600), 7, 2),
+    (Step::Resolves(LESSON, 1, LESSON_ONE), 7, 2),
+    (Step::Holds(LESSON, (1, &[25], &[Some(4), None])), 7, 2),
+    (Step::Holds(LESSON, (2, &[30], &[None, Some(1)])), 7, 2),
+];
+
+const TOO_FEW_FIELDS: PlanFault = PlanFault::FieldCount {
+    class: LESSON,
+    id: 3,
+};
+
+const OUT_OF_RANGE: PlanFault = PlanFault::FieldRange {
+    class: LESSON,
+    id: 3,
+    field: 0,
+};
+
+const BAD_SLOT: PlanFault = PlanFault::BadValue {
+    class: LESSON,
+    id: 3,
+    var: 0,
+};
+
+const TOO_FEW_VALUES: PlanFault = PlanFault::BadValue {
+    class: LESSON,
+    id: 3,
+    var: 2,
+};
+
+/// Lessons are refused; facts are added under new ids.
+const ADDS: &[Row] = &[
+    (
+        Step::Refuse(LESSON, (0, &[], &[Some(5)]), TOO_FEW_FIELDS),
+        7,
+        3,
+    ),
+    (
+        Step::Refuse(LESSON, (0, &[1_000_000_001], &[Some(5)]), OUT_OF_RANGE),
+        7,
+        3,
+    ),
+    (Step::Refuse(LESSON, (0, &[1], &[Some(5)]), BAD_SLOT), 7, 3),
+    (
+        Step::Refuse(LESSON, (0, &[1], &[Some(4)]), TOO_FEW_VALUES),
+        7,
+        3,
+    ),
+    (Step::Add(LESSON, (0, &[1], &[Some(4), None]), Ok(3)), 8, 4),
+    (
+        Step::Add(SLOT, (0, &[2, 480], &[]), Ok(1_000_000_001)),
+        9,
+        4,
+    ),
+    (
+        Step::Add(LESSON, (0, &[1], &[Some(1_000_000_001), Some(1)]), Ok(4)),
+        10,
+        4,
+    ),
+    (
+        Step::Holds(LESSON, (4, &[1], &[Some(1_000_000_001), Some(1)])),
+        10,
+        4,
+    ),
+    (Step::Remove(SLOT, 1_000_000_001, true), 10, 5),
+    (
+        Step::Ids(SLOT, &[4, 9, 1_000_000_000], 1_000_000_002),
+        10,
+        5,
+    ),
+];
+
+/// Facts are removed, also from the variables.
+const REMOVALS: &[Row] = &[
+    (Step::Remove(SLOT, 5, false), 7, 3),
+    (Step::Remove(SLOT, 9, true), 7, 4),
+    (Step::Remove(SLOT, 9, false), 7, 4),
+    (Step::Ids(SLOT, &[4, 1_000_000_000], 1_000_000_001), 7, 4),
+    (Step::Holds(LESSON, (2, &[30], &[None, None])), 7, 4),
+    (Step::Remove(LESSON, 1, true), 7, 2),
+    (Step::Remove(3, 1, false), 7, 2),
+];
+
+/// A lesson without a room and a slot are added and taken back; a slot that a lesson has, the last slot, a lesson and a
+/// room are removed and put back.
+const RETURNS: &[Row] = &[
+    (
+        Step::AddAndTakeBack(LESSON, (0, &[1], &[Some(4), None])),
+        7,
+        3,
+    ),
+    (Step::AddAndTakeBack(SLOT, (0, &[2, 480], &[])), 7, 3),
+    (Step::RemoveAndPutBack(SLOT, 9), 7, 3),
+    (Step::RemoveAndPutBack(SLOT, 1_000_000_000), 7, 3),
+    (Step::RemoveAndPutBack(LESSON, 1), 7, 3),
+    (Step::RemoveAndPutBack(ROOM, 1), 7, 3),
+];
+
+/// What is done each with a copy of the timetable.
+const SCRIPTS: &[&[Row]] = &[SETS, ADDS, REMOVALS, RETURNS];
+
+/// Whether each step is so with a copy of the plan.
+fn goes(plan: &Plan, alloc: Global, rows: &[Row]) -> Result<bool, Memory> {
+    let mut copy = plan.copy()?;
+    Ok(wrong_step(&mut copy, alloc, rows).is_none())
+}
+
+/// The place of the first script that isn't so.
+fn wrong_script(plan: &Plan, alloc: Global) -> Option<usize> {
+    let scripts = SCRIPTS;
+    for place in 0..scripts.len() {
+        if goes(plan, alloc, scripts[place]) != Ok(true) {
+            return Some(place);
+        }
+    }
+    None
+}
+
+/// What is wrong with the plan of the timetable, before, while and after copies of it are changed.
+fn wrong_timetable(plan: &Plan, alloc: Global) -> (bool, Option<usize>, Option<usize>, bool) {
+    let before = is_timetable(plan);
+    let record = wrong_lent(plan, alloc);
+    let script = wrong_script(plan, alloc);
+    (before, record, script, is_timetable(plan))
+}
+
+#[test]
+fn gives_what_lists_give_and_changes_by_itself(rt: HostRuntime) -> Result<(), Fail> {
+    let plan = plan_alone(rt.alloc(), CLASSES, TIMETABLE)?;
+    let found = wrong_timetable(&plan, rt.alloc());
+    assert!(rt; found == (true, None, None, true));
+    Ok(())
+}
+
+/// Nurses, and shifts which need a lead and may have a spare.
+const WARD: &[ClassSketch] = &[
+    ClassSketch("nurse", &[], &[]),
+    ClassSketch("shift", &[], &[Var("lead", 0), Nullable("spare", 0)]),
+];
+
+const SHIFT: u8 = 1;
+
+/// A nurse, and three shifts, of which two miss their lead and the first is pinned.
+const SHIFTS: &[&[FactSketch]] = &[
+    &[Fact(1, &[])],
+    &[
+        Pinned(1, &[], &[None, None]),
+        Entity(2, &[], &[Some(1), None]),
+        Entity(3, &[], &[None, Some(1)]),
+    ],
+];
+
+/// Pins are told, and variables set, while what may not stay null is counted.
+const WARD_STEPS: &[Row] = &[
+    (Step::Pinned(SHIFT, 1, true), 4, 2),
+    (Step::Pinned(SHIFT, 2, false), 4, 2),
+    (Step::Pinned(SHIFT, 4, false), 4, 2),
+    (Step::Pinned(0, 1, false), 4, 2),
+    (Step::Pinned(2, 1, false), 4, 2),
+    (Step::Set(SHIFT, 3, 1, None, true), 4, 2),
+    (Step::Set(SHIFT, 1, 0, Some(1), true), 4, 1),
+    (Step::Add(SHIFT, (0, &[], &[None, None]), Ok(4)), 5, 2),
+    (Step::Pinned(SHIFT, 1, true), 5, 2),
+    (Step::Pinned(SHIFT, 2, false), 5, 2),
+    (Step::Pinned(SHIFT, 4, false), 5, 2),
+    (Step::Pinned(0, 1, false), 5, 2),
+    (Step::Pinned(2, 1, false), 5, 2),
+    (Step::Remove(0, 1, true), 5, 4),
+];
+
+#[test]
+fn counts_what_may_not_stay_null(rt: HostRuntime) -> Result<(), Fail> {
+    let mut plan = plan_alone(rt.alloc(), WARD, SHIFTS)?;
+    let nullable = plan.nullables(SHIFT) == [false, true].as_slice();
+    assert!(rt; (nullable, wrong_step(&mut plan, rt.alloc(), WARD_STEPS)) == (true, None));
+    Ok(())
+}
+
+/// The first of these steps that isn't so with so many slots, no lesson and no room; or why such a plan is refused.
+fn wrong_with_slots(
+    alloc: Global,
+    schema: &Schema,
+    count: u32,
+    rows: &[Row],
+) -> Result<Option<usize>, PlanFault> {
+    let lists = lists_of_slots(alloc, count)?;
+    let mut plan = Plan::of(alloc, schema, lists)?;
+    Ok(wrong_step(&mut plan, alloc, rows))
+}
+
+/// The greatest of a hundred thousand slots.
+const GREATEST: &[Row] = &[(Step::Holds(SLOT, (FACT_LIMIT, &[0, 0], &[])), FACT_LIMIT, 0)];
+
+/// With a hundred thousand slots but one a room is added, and no second one, though a slot was removed.
+const ROOMS: &[Row] = &[
+    (Step::Add(ROOM, (0, &[7], &[]), Ok(1)), FACT_LIMIT, 0),
+    (Step::Remove(SLOT, 5, true), FACT_LIMIT, 0),
+    (
+        Step::Add(ROOM, (0, &[7], &[]), Err(PlanFault::TooManyFacts)),
+        FACT_LIMIT,
+        0,
+    ),
+];
+
+/// So many slots, what is done with them, and whether all of it is so, or why the plan is refused.
+const LIMITS: &[(u32, &[Row], Result<Option<usize>, PlanFault>)] = &[
+    (FACT_LIMIT + 1, &[], Err(PlanFault::TooManyFacts)),
+    (FACT_LIMIT, GREATEST, Ok(None)),
+    (FACT_LIMIT - 1, ROOMS, Ok(None)),
+];
+
+/// The place of the first of those that isn't so.
+fn wrong_limit(alloc: Global, schema: &Schema) -> Option<usize> {
+    let limits = LIMITS;
+    for place in 0..limits.len() {
+        let (count, rows, answer) = &limits[place];
+        if wrong_with_slots(alloc, schema, *count, rows) != *answer {
+            return Some(place);
         }
     }
     None
 }
 
 #[test]
-fn puts_removed_facts_back(rt: HostRuntime) -> Result<(), Fail> {
-    let mut plan = timetable(rt.alloc())?;
-    assert!(rt; wrong_return(&mut plan) == None);
+fn takes_a_hundred_thousand_facts_and_names_the_first_fault(rt: HostRuntime) -> Result<(), Fail> {
+    let schema = schema_of(rt.alloc(), CLASSES)?;
+    let fault = wrong_fault(rt.alloc(), &schema);
+    assert!(rt; (fault, wrong_limit(rt.alloc(), &schema)) == (None, None));
     Ok(())
 }

@@ -1,15 +1,14 @@
 //! Candidates: what each selector makes of plans and words.
-ghost use Rattle.std.specs.Prelude.{◌≡◌, ◌<◌, ◌^◌, [], ◌∷◌, Some, None, length, slice_index};
+ghost use Rattle.std.specs.Prelude.{◌≡◌, ◌<◌, ◌≤◌, ◌==◌, ◌^◌, [], ◌∷◌, Some, None, if◌then◌else◌, length, slice_index};
 ghost use Rattle.move_selectors.specs.Pool.{IsPoolOf};
 ghost use Rattle.plan_moves.specs.Edits.{edit_of};
 
 use super::fixtures::{Planned, make_plan};
 use move_selectors::{Pool, candidate};
-use plan_facts::{Memory, Plan};
-use plan_moves::{Edit, MoveMaker, Set};
+use plan_facts::{List, Memory, Plan};
+use plan_moves::{Edit, MoveMaker, Set, make_by};
 use plan_settings::Selector;
 use std::alloc::Global;
-use std::process::Abort;
 use std::test::Fail;
 use test_plans::FactSketch::{Entity, Fact, Pinned};
 use test_plans::VarSketch::{Nullable, Var};
@@ -40,62 +39,103 @@ const OPEN_SHIFTS: &[ClassSketch] = &[
     ClassSketch("shift", &[], &[Nullable("worker", 0)]),
 ];
 
-/// Whether the edit sets this.
+/// Whether the edit sets just this.
 fn has_sets(edit: &Edit, changes: &[Change]) -> bool {
     let sets = edit.sets();
-    for (set, change) in sets.iter().zip(changes) {
-        if (set.id, set.var, set.value) != *change {
+    if sets.len() != changes.len() {
+        return false;
+    }
+    for place in 0..sets.len() {
+        let set = &sets[place];
+        if (set.id, set.var, set.value) != changes[place] {
             return false;
         }
     }
-    sets.len() == changes.len()
+    true
 }
 
-/// The edit that was made, or that none was, is what is wanted.
-fn expect_made(rt: &impl Abort, made: bool, edit: &Edit, wanted: Option<&'static [Change]>) {
-    let sets = has_sets(edit, wanted.unwrap_or(&[]));
-    assert!(rt; (made, sets) == (wanted.is_some(), true));
+/// Whether the words of a case make what the case says.
+fn is_made(
+    facts: &Planned,
+    pool: &mut Pool,
+    selectors: &[Selector],
+    makers: &[Box<dyn MoveMaker>],
+    case: &Case,
+    edit: &mut Edit,
+) -> Result<bool, Memory>
+    requires selectors { (1 ≤ length selectors.now) × (length selectors.now ≤ 8) }
+    requires makers { length makers.now < 2 ^ 32 }
+    requires pool { IsPoolOf facts.now.plan pool.old }
+    ensures { IsPoolOf facts.now.plan pool.new }
+{
+    let Planned { schema, plan } = facts;
+    let made = candidate(schema, plan, pool, selectors, makers, &case.0, edit)?;
+    Ok(made == case.1.is_some() && has_sets(edit, case.1.unwrap_or(&[])))
 }
 
-/// The words of each case make what the case says.
-fn expect(
-    rt: &impl Abort,
+/// Whether the words of each case make what the case says.
+fn are_made(
+    alloc: Global,
+    facts: &Planned,
+    pool: &mut Pool,
+    selectors: &[Selector],
+    makers: &[Box<dyn MoveMaker>],
+    cases: &[Case],
+) -> Result<bool, Memory>
+    requires makers { length makers.now < 2 ^ 32 }
+    requires pool { IsPoolOf facts.now.plan pool.old }
+{
+    if selectors.is_empty() || selectors.len() > 8 {
+        return Ok(false);
+    }
+    let mut edit = Edit::new(alloc);
+    for case in cases {
+        if !is_made(facts, pool, selectors, makers, case, &mut edit)? {
+            return Ok(false);
+        }
+    }
+    Ok(true)
+}
+
+/// Whether with a pool of the plan the words of each case make what the case says.
+fn makes(
     alloc: Global,
     facts: &Planned,
     selectors: &[Selector],
     makers: &[Box<dyn MoveMaker>],
     cases: &[Case],
-) -> Result<(), Fail>
+) -> Result<bool, Memory>
     requires { length makers.now < 2 ^ 32 }
 {
-    assert!(rt; selectors.len() >= 1 && selectors.len() <= 8);
     let mut pool = Pool::of(alloc, &facts.plan)?;
-    let mut edit = Edit::new(alloc);
-    for case in cases {
-        let Planned { schema, plan } = facts;
-        let words = &case.0;
-        let made = candidate(schema, plan, &mut pool, selectors, makers, words, &mut edit)?;
-        expect_made(rt, made, &edit, case.1);
-    }
-    Ok(())
+    are_made(alloc, facts, &mut pool, selectors, makers, cases)
 }
 
 /// Selectors, and cases that say what they make.
 type Suite = (&'static [Selector], &'static [Case]);
 
-/// On the plan of these facts the words of each suite's cases make what the cases say.
-fn expect_suites(
-    rt: &impl Abort,
-    alloc: Global,
-    classes: &[ClassSketch],
-    facts: &[&[FactSketch]],
-    suites: &[Suite],
-) -> Result<(), Fail> {
-    let facts = make_plan(alloc, classes, facts)?;
-    for (selectors, cases) in suites {
-        expect(rt, alloc, &facts, selectors, &[], cases)?;
+/// Classes and facts, and suites that say what selectors make of them.
+type Situation = (
+    &'static [ClassSketch],
+    &'static [&'static [FactSketch]],
+    &'static [Suite],
+);
+
+/// The place of the first of these suites that isn't so.
+fn wrong_suite(alloc: Global, facts: &Planned, suites: &[Suite]) -> Option<usize> {
+    for place in 0..suites.len() {
+        let (selectors, cases) = suites[place];
+        if makes(alloc, facts, selectors, &[], cases) != Ok(true) {
+            return Some(place);
+        }
     }
-    Ok(())
+    None
+}
+
+/// The place of the first of the situation's suites that isn't so.
+fn wrong_in(alloc: Global, situation: &Situation) -> Result<Option<usize>, Fail> {
+    let facts = make_plan(alloc, situation.0, situation.1)?;
+    Ok(wrong_suite(alloc, &facts, situation.2))
 }
 
 // The words and edits of these tests are of another program, but for those of pillar swaps, which were made by hand.
@@ -129,17 +169,6 @@ const CHANGES: &[Case] = &[
     (NEAR, Some(&[(1, 1, Some(1))])),
     (TWICE, Some(&[(8, 0, Some(2))])),
 ];
-
-#[test]
-fn one_variable_of_a_lesson_changes(rt: HostRuntime) -> Result<(), Fail> {
-    expect_suites(
-        &rt,
-        rt.alloc(),
-        LESSONS,
-        COURSE,
-        &[(&[Selector::Change], CHANGES)],
-    )
-}
 
 /// Slots, rooms, and lessons of which some have no slot or no room.
 const SCHOOL: &[&[FactSketch]] = &[
@@ -211,11 +240,6 @@ const BOTH_SWAPS: &[Suite] = &[
     (&[Selector::PillarSwap], PILLAR_SWAPS),
 ];
 
-#[test]
-fn lessons_and_pillars_of_lessons_swap(rt: HostRuntime) -> Result<(), Fail> {
-    expect_suites(&rt, rt.alloc(), LESSONS, SCHOOL, BOTH_SWAPS)
-}
-
 /// Employees, and shifts of which one has no worker.
 const WARD: &[&[FactSketch]] = &[
     &[Fact(1, &[]), Fact(2, &[])],
@@ -266,11 +290,6 @@ const PICKS: &[Case] = &[
     ),
 ];
 
-#[test]
-fn the_first_word_picks_a_selector(rt: HostRuntime) -> Result<(), Fail> {
-    expect_suites(&rt, rt.alloc(), SHIFTS, WARD, &[(SWAP_OR_PILLAR, PICKS)])
-}
-
 /// Each selector makes nothing.
 const NOTHING: &[Suite] = &[
     (&[Selector::Change], &[(FAR, None)]),
@@ -279,11 +298,6 @@ const NOTHING: &[Suite] = &[
     (&[Selector::PillarSwap], &[(FAR, None)]),
     (&[Selector::Own], &[(FAR, None)]),
 ];
-
-#[test]
-fn nothing_is_picked_of_an_empty_list(rt: HostRuntime) -> Result<(), Fail> {
-    expect_suites(&rt, rt.alloc(), SHIFTS, &[&[], &[]], NOTHING)
-}
 
 // The words of the first two candidates of the first step under seed 0.
 const FIRST: [u32; 8] = [
@@ -320,11 +334,6 @@ const PINNED: &[Suite] = &[
     ),
     (&[Selector::PillarSwap], &[(FIRST, None)]),
 ];
-
-#[test]
-fn a_pinned_entity_is_never_picked(rt: HostRuntime) -> Result<(), Fail> {
-    expect_suites(&rt, rt.alloc(), SHIFTS, HALF_PINNED, PINNED)
-}
 
 /// Two employees, and shifts of which two have no worker.
 const OPEN: &[&[FactSketch]] = &[
@@ -380,79 +389,97 @@ const NULLABLE: &[Suite] = &[
     ),
 ];
 
-#[test]
-fn null_is_a_choice_and_makes_a_pillar(rt: HostRuntime) -> Result<(), Fail> {
-    expect_suites(&rt, rt.alloc(), OPEN_SHIFTS, OPEN, NULLABLE)
-}
-
 /// Words that pick the first pillar and its last choice.
 const FIRST_PILLAR: [u32; 8] = [0, 0, 0, 0, LAST, 0, 0, 0];
 
-/// The first pillar gets its last choice by this edit.
-fn expect_first_pillar(
-    rt: &impl Abort,
-    duty: &Planned,
-    pool: &mut Pool,
-    edit: &mut Edit,
-    changes: &[Change],
-) -> Result<(), Memory>
-    requires { IsPoolOf duty.now.plan pool.old }
-    ensures { IsPoolOf duty.now.plan pool.new }
-{
-    let Planned { schema, plan } = duty;
-    let selectors = [Selector::PillarChange];
-    let made = candidate(schema, plan, pool, &selectors, &[], &FIRST_PILLAR, edit)?;
-    assert!(rt; (made, has_sets(edit, changes)) == (true, true));
-    Ok(())
-}
-
-/// Does an edit, which must be doable, and forgets the pillars.
-fn take(rt: &impl Abort, duty: &mut Planned, pool: &mut Pool, edit: &Edit)
+/// Does an edit where it is doable, and forgets the pillars; whether it was done.
+fn take(duty: &mut Planned, pool: &mut Pool, edit: &Edit) -> bool
     requires { IsPoolOf duty.old.plan pool.old }
     ensures { IsPoolOf duty.new.plan pool.new }
 {
-    assert!(rt; edit.doable(&duty.schema, &duty.plan));
+    if !edit.doable(&duty.schema, &duty.plan) {
+        return false;
+    }
     edit.apply(&mut duty.plan);
     pool.forget_pillars();
+    true
 }
 
-/// The first pillar is both shifts, and the second shift alone once the first one has no worker.
-fn expect_anew(
-    rt: &impl Abort,
-    duty: &mut Planned,
-    pool: &mut Pool,
-    edit: &mut Edit,
-) -> Result<(), Memory>
+/// The first pillar is both shifts.
+const BOTH: Case = (FIRST_PILLAR, Some(&[(1, 0, Some(2)), (2, 0, Some(2))]));
+
+/// The first pillar is the second shift alone.
+const SECOND_ALONE: Case = (FIRST_PILLAR, Some(&[(2, 0, Some(2))]));
+
+/// Whether the first pillar is both shifts, and the second shift alone once the first one has no worker.
+fn are_anew(duty: &mut Planned, pool: &mut Pool, edit: &mut Edit) -> Result<bool, Memory>
     requires { IsPoolOf duty.old.plan pool.old }
 {
-    let both = [(1, 0, Some(2)), (2, 0, Some(2))];
-    expect_first_pillar(rt, duty, pool, edit, &both)?;
+    let selectors = [Selector::PillarChange];
+    let both = is_made(duty, pool, &selectors, &[], &BOTH, edit)?;
     edit.fill(&[cleared(1, 0)])?;
-    take(rt, duty, pool, edit);
-    expect_first_pillar(rt, duty, pool, edit, &[(2, 0, Some(2))])
+    let taken = take(duty, pool, edit);
+    let second = is_made(duty, pool, &selectors, &[], &SECOND_ALONE, edit)?;
+    Ok(both && taken && second)
+}
+
+/// Whether that is so with a pool of the plan.
+fn finds_anew(alloc: Global, duty: &mut Planned) -> Result<bool, Memory> {
+    let mut pool = Pool::of(alloc, &duty.plan)?;
+    let mut edit = Edit::new(alloc);
+    are_anew(duty, &mut pool, &mut edit)
+}
+
+/// All situations.
+const SITUATIONS: &[Situation] = &[
+    (LESSONS, COURSE, &[(&[Selector::Change], CHANGES)]),
+    (LESSONS, SCHOOL, BOTH_SWAPS),
+    (SHIFTS, WARD, &[(SWAP_OR_PILLAR, PICKS)]),
+    (SHIFTS, &[&[], &[]], NOTHING),
+    (SHIFTS, HALF_PINNED, PINNED),
+    (OPEN_SHIFTS, OPEN, NULLABLE),
+];
+
+/// The place of the first situation that isn't so.
+fn wrong_situation(alloc: Global) -> Result<Option<usize>, Fail> {
+    let situations = SITUATIONS;
+    for place in 0..situations.len() {
+        if wrong_in(alloc, &situations[place])?.is_some() {
+            return Ok(Some(place));
+        }
+    }
+    Ok(None)
+}
+
+#[test]
+fn selectors_make_of_plans_and_words_what_they_should(rt: HostRuntime) -> Result<(), Fail> {
+    let wrong = wrong_situation(rt.alloc())?;
+    assert!(rt; wrong == None);
+    Ok(())
 }
 
 #[test]
 fn pillars_are_found_anew_after_an_edit(rt: HostRuntime) -> Result<(), Fail> {
-    let alloc = rt.alloc();
-    let mut duty = make_plan(alloc, SHIFTS, DUTY)?;
-    let mut pool = Pool::of(alloc, &duty.plan)?;
-    let mut edit = Edit::new(alloc);
-    expect_anew(&rt, &mut duty, &mut pool, &mut edit)?;
+    let mut duty = make_plan(rt.alloc(), SHIFTS, DUTY)?;
+    assert!(rt; finds_anew(rt.alloc(), &mut duty) == Ok(true));
     Ok(())
 }
 
-/// Clears one variable of the fact whose id is the last word.
+/// Clears one variable of the fact whose id is the last word; at word 0 it makes nothing.
 #[derive(Drop)]
 struct Clears {
     var: u8,
 }
 
 impl MoveMaker for Clears {
-    ghost made = { λ maker _ words. Some (edit_of (record { class = 1; id = slice_index words 7; var = maker.var; value = None } ∷ [])) };
+    ghost made = { λ maker _ words. if slice_index words 7 == 0 then None else Some (edit_of (record { class = 1; id = slice_index words 7; var = maker.var; value = None } ∷ [])) };
 
     fn make(&self, _: &Plan, words: &[u32; 8], into: &mut Edit) -> Result<bool, Memory> {
-        into.fill(&[cleared(words[7], self.var)])?;
+        let id = words[7];
+        if id == 0 {
+            return Ok(false);
+        }
+        into.fill(&[cleared(id, self.var)])?;
         Ok(true)
     }
 }
@@ -475,12 +502,44 @@ const OWN: &[Case] = &[
     ([9, 2147483648, 0, 0, 0, 0, 0, 7], Some(&[(7, 5, None)])),
 ];
 
+/// Whether a maker, asked by its box, makes an edit or none.
+fn is_asked(maker: &Box<dyn MoveMaker>, plan: &Plan, edit: &mut Edit) -> Result<bool, Memory>
+    requires { edit.old ≡ [] }
+{
+    let none = make_by(maker, plan, &[7, 7, 7, 7, 7, 7, 7, 0], edit)?;
+    let empty = edit.sets().is_empty();
+    edit.clear();
+    let some = make_by(maker, plan, &[0, 0, 0, 0, 0, 0, 0, 7], edit)?;
+    Ok(!none && empty && some && edit.sets() == [cleared(7, 4)].as_slice())
+}
+
+/// Whether the first of two makers makes an edit or none, and the words pick the one or the other.
+fn are_asked(
+    alloc: Global,
+    facts: &Planned,
+    makers: &[Box<dyn MoveMaker>],
+) -> Result<bool, Memory> {
+    if makers.len() != 2 {
+        return Ok(false);
+    }
+    let mut edit = Edit::new(alloc);
+    let asked = is_asked(&makers[0], &facts.plan, &mut edit)?;
+    Ok(asked && makes(alloc, facts, &[Selector::Own], makers, OWN)?)
+}
+
+/// Whether two makers, which clear variables 4 and 5, are asked so.
+fn asks_makers(alloc: Global, facts: &Planned) -> Result<bool, Memory> {
+    let mut makers: List<Box<dyn MoveMaker>> = List::new(alloc);
+    for var in 4..6 {
+        let maker: Box<dyn MoveMaker> = Box::new(alloc, Clears { var })?;
+        makers.push(maker)?;
+    }
+    are_asked(alloc, facts, makers.as_slice())
+}
+
 #[test]
-fn the_second_word_picks_a_maker(rt: HostRuntime) -> Result<(), Fail> {
-    let alloc = rt.alloc();
-    let facts = make_plan(alloc, SHIFTS, &[&[], &[]])?;
-    let first: Box<dyn MoveMaker> = Box::new(alloc, Clears { var: 4 })?;
-    let second: Box<dyn MoveMaker> = Box::new(alloc, Clears { var: 5 })?;
-    let makers = [first, second];
-    expect(&rt, alloc, &facts, &[Selector::Own], &makers, OWN)
+fn makers_in_boxes_are_asked_and_picked(rt: HostRuntime) -> Result<(), Fail> {
+    let facts = make_plan(rt.alloc(), SHIFTS, &[&[], &[]])?;
+    assert!(rt; asks_makers(rt.alloc(), &facts) == Ok(true));
+    Ok(())
 }

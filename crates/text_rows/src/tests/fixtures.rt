@@ -5,9 +5,7 @@ use plan_rules::{Head, RuleDef};
 use plan_scores::Level;
 use problem_faults::{ProblemFault, write_refusal};
 use std::alloc::Global;
-use std::process::Abort;
 use std::str;
-use std::test::Fail;
 
 /// A rule with this name and weight, which each fact of a class matches.
 pub(super) fn rule_of(
@@ -32,23 +30,16 @@ pub(super) fn word(text: &Text) -> &str {
     str::from_utf8(text.as_slice()).unwrap_or("?")
 }
 
-/// Writes the line of a refusal; nothing where nothing is refused.
-fn write_answer<T: Drop>(out: &mut Vec<u8>, answer: Result<T, ProblemFault>) -> Result<(), Memory> {
-    match answer {
-        Ok(_) => Ok(()),
-        Err(fault) => write_refusal(&fault, out),
-    }
+/// Whether the refusal has this line.
+pub(super) fn is_line(alloc: Global, fault: &ProblemFault, line: &[u8]) -> bool {
+    let mut out = Vec::new(alloc);
+    write_refusal(fault, &mut out).is_ok() && out.as_slice() == line
 }
 
-/// Fails where this isn't the line of the refusal; it has no bytes where nothing is refused.
-pub(super) fn expect_line<T: Drop>(
-    rt: &impl Abort,
-    alloc: Global,
-    answer: Result<T, ProblemFault>,
-    wanted: &[u8],
-) -> Result<(), Fail> {
-    let mut line = Vec::new(alloc);
-    write_answer(&mut line, answer)?;
-    assert_eq!(rt; line.as_slice(), wanted);
-    Ok(())
+/// Whether this is the line of the refusal, if any; it has no bytes where nothing is refused.
+pub(super) fn has_line(alloc: Global, fault: Option<ProblemFault>, line: &[u8]) -> bool {
+    match fault {
+        Some(fault) => is_line(alloc, &fault, line),
+        None => line.is_empty(),
+    }
 }

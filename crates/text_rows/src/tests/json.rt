@@ -3,15 +3,14 @@
 ghost use Rattle.std.specs.Prelude.{◌≡◌, IfOk, IsTrue};
 ghost use Rattle.plan_facts.specs.Schema.{is_name};
 
-use super::fixtures::{expect_line, rule_of};
+use super::fixtures::{has_line, rule_of};
 use crate::last_digit;
 use plan_facts::Kind::{Name, Number};
-use plan_facts::{Kind, List, Memory, Schema, Text, is_name};
+use plan_facts::{Kind, List, Memory, Plan, Schema, Text, is_name};
 use plan_json::{Domain, Problem, read_problem};
 use plan_rules::{Book, RuleDef, Rules};
 use plan_settings::Construction;
 use std::alloc::Global;
-use std::process::Abort;
 use std::test::Fail;
 use test_plans::VarSketch::{Nullable, Var};
 use test_plans::{ClassSketch, schema_of};
@@ -180,18 +179,21 @@ const PROBLEMS: [(&[u8], &[u8]); 22] = [
     ),
 ];
 
-/// Fails where something else is written of a problem.
-fn expect_problems(rt: &impl Abort, alloc: Global, domains: &[Domain<Silent>]) -> Result<(), Fail> {
-    for (text, wanted) in &PROBLEMS {
-        expect_line(rt, alloc, read_problem(alloc, text, domains), wanted)?;
+/// The place of the first problem of which something else is written.
+fn wrong_problem(alloc: Global, domains: &[Domain<Silent>]) -> Option<usize> {
+    for (place, (text, wanted)) in PROBLEMS.iter().enumerate() {
+        if !has_line(alloc, read_problem(alloc, text, domains).err(), wanted) {
+            return Some(place);
+        }
     }
-    Ok(())
+    None
 }
 
 #[test]
 fn refuses_problems_by_the_first_fault(rt: HostRuntime) -> Result<(), Fail> {
     let domains = domains(rt.alloc())?;
-    expect_problems(&rt, rt.alloc(), &domains)
+    assert!(rt; wrong_problem(rt.alloc(), &domains) == None);
+    Ok(())
 }
 
 /// Writes so many records, of ids from 101 on with three digits, which have one further member.
@@ -241,30 +243,32 @@ const WIDE: [(&[u8], u32, u32, &[u8]); 6] = [
     (b"open", 700, 0, b""),
 ];
 
-/// Fails where something else is written of a problem with so many timeslots and so many rooms.
-fn try_wide(
-    rt: &impl Abort,
+/// Whether this is written of a problem with so many timeslots and so many rooms.
+fn answers_wide(
     alloc: Global,
     domains: &[Domain<Silent>],
     (domain, slots, rooms, wanted): (&[u8], u32, u32, &[u8]),
-) -> Result<(), Fail> {
+) -> bool {
     let mut text = Vec::new(alloc);
-    push_problem(&mut text, domain, slots, rooms)?;
-    expect_line(rt, alloc, read_problem(alloc, &text, domains), wanted)
+    push_problem(&mut text, domain, slots, rooms).is_ok()
+        && has_line(alloc, read_problem(alloc, &text, domains).err(), wanted)
 }
 
-/// Fails where something else is written of a problem with many combinations.
-fn expect_wide(rt: &impl Abort, alloc: Global, domains: &[Domain<Silent>]) -> Result<(), Fail> {
-    for row in WIDE {
-        try_wide(rt, alloc, domains, row)?;
+/// The place of the first problem with many combinations of which something else is written.
+fn wrong_wide(alloc: Global, domains: &[Domain<Silent>]) -> Option<usize> {
+    for (place, row) in WIDE.iter().enumerate() {
+        if !answers_wide(alloc, domains, *row) {
+            return Some(place);
+        }
     }
-    Ok(())
+    None
 }
 
 #[test]
 fn accepts_as_many_combinations_as_the_limit(rt: HostRuntime) -> Result<(), Fail> {
     let domains = domains(rt.alloc())?;
-    expect_wide(&rt, rt.alloc(), &domains)
+    assert!(rt; wrong_wide(rt.alloc(), &domains) == None);
+    Ok(())
 }
 
 /// A problem that says all.
@@ -273,36 +277,44 @@ const TOLD: &[u8] = br#"{"facts":{"lesson":[{"id":4,"subject":"Physics","size":2
 "weights":{"any_lesson":5},"settings":{"construction":"first_fit_decreasing","seed":9,"steps":3},
 "domain":"timetable","format":2}"#;
 
-/// Fails where the problem isn't read as it says.
-fn expect_told(rt: &impl Abort, read: &Problem) {
-    assert_eq!(rt; read.domain, 1);
-    assert_eq!(rt; (read.settings.seed, read.settings.steps), (9, 3));
-    assert_eq!(rt; read.weights.as_slice(), [5].as_slice());
-    assert_eq!(rt; (read.plan.made(), read.plan.unplaced()), (3, 3));
-    assert_eq!(rt; read.settings.construction, Construction::Decreasing);
-    assert_eq!(rt; read.names.find(b"Maths"), Some(1));
+/// Whether the settings are those that it says.
+fn has_settings(read: &Problem) -> bool {
+    (read.settings.seed, read.settings.steps) == (9, 3)
+        && read.settings.construction == Construction::Decreasing
 }
 
-/// Fails where the problem's first lesson isn't read as it says.
-fn expect_lesson(rt: &impl Abort, read: &Problem) {
-    let Some(lesson) = read.plan.raw(LESSON, 1) else {
-        panic!(rt; "no such lesson");
-    };
-    assert_eq!(rt; lesson.fields.as_slice(), [1, -3].as_slice());
-    assert_eq!(rt; lesson.values.as_slice(), [None, Some(7)].as_slice());
-    assert!(rt; lesson.pinned);
+/// Whether the first lesson is the one that it says.
+fn has_lesson(plan: &Plan) -> bool {
+    match plan.raw(LESSON, 1) {
+        Some(lesson) => {
+            lesson.fields.as_slice() == [1, -3].as_slice()
+                && lesson.values.as_slice() == [None, Some(7)].as_slice()
+                && lesson.pinned
+        }
+        None => false,
+    }
 }
 
-/// Fails where the problem that says all isn't read as it says.
-fn try_told(rt: &impl Abort, alloc: Global, domains: &[Domain<Silent>]) -> Result<(), Fail> {
-    let read = read_problem(alloc, TOLD, domains)?;
-    expect_told(rt, &read);
-    expect_lesson(rt, &read);
-    Ok(())
+/// Whether the problem is read as it says.
+fn is_as_told(read: &Problem) -> bool {
+    has_settings(read)
+        && has_lesson(&read.plan)
+        && (read.plan.made(), read.plan.unplaced(), read.domain) == (3, 3, 1)
+        && read.weights.as_slice() == [5].as_slice()
+        && read.names.find(b"Maths") == Some(1)
+}
+
+/// Whether the problem that says all is read so.
+fn reads_told(alloc: Global, domains: &[Domain<Silent>]) -> bool {
+    match read_problem(alloc, TOLD, domains) {
+        Ok(read) => is_as_told(&read),
+        Err(_) => false,
+    }
 }
 
 #[test]
 fn reads_a_problem(rt: HostRuntime) -> Result<(), Fail> {
     let domains = domains(rt.alloc())?;
-    try_told(&rt, rt.alloc(), &domains)
+    assert!(rt; reads_told(rt.alloc(), &domains));
+    Ok(())
 }

@@ -1,14 +1,13 @@
 //! The records of problems, and what the first bad one is refused for.
 
-use super::fixtures::word;
 use crate::last_digit;
 use json_values::read_value;
 use plan_facts::Kind::{Name, Number};
 use plan_facts::{Kind, Memory, Plan, Schema};
-use problem_faults::ProblemFault;
+use problem_faults::{ProblemFault, write_refusal};
 use problem_records::{Records, read_records};
-use std::alloc::{AllocError, Global};
-use std::process::Abort;
+use serde_json::Value;
+use std::alloc::Global;
 use std::test::Fail;
 use test_plans::VarSketch::Var;
 use test_plans::{ClassSketch, schema_of};
@@ -44,85 +43,66 @@ const LESSON_FIELDS: &[(&str, Kind)] = &[
     ("size", Number),
 ];
 
-/// The refusal, in words.
-fn told(alloc: Global, fault: &ProblemFault) -> Result<String, AllocError> {
-    match fault {
-        ProblemFault::Shape { path } => format!(in alloc; "shape {}", word(path)),
-        ProblemFault::TooManyFacts => String::from_str(alloc, "too_many_facts"),
-        ProblemFault::DoubleId { class, id } => {
-            format!(in alloc; "double_id {}#{id}", word(class))
-        }
-        ProblemFault::BadField { class, id, field } => {
-            format!(in alloc; "bad_field {}#{id} {}", word(class), word(field))
-        }
-        ProblemFault::BadValue { class, id, var } => {
-            format!(in alloc; "bad_value {}#{id} {}", word(class), word(var))
-        }
-        _ => String::from_str(alloc, "another"),
-    }
-}
-
-/// What facts are refused for, in words; `read` where they are read.
-fn answer_words(
-    alloc: Global,
-    answer: Result<Records, ProblemFault>,
-) -> Result<String, AllocError> {
-    match answer {
-        Ok(_) => String::from_str(alloc, "read"),
-        Err(fault) => told(alloc, &fault),
-    }
+/// Whether the line of a refusal has these words.
+fn has_words(alloc: Global, fault: &ProblemFault, words: &str) -> bool {
+    let mut line = Vec::new(alloc);
+    write_refusal(fault, &mut line).is_ok()
+        && line.as_slice().strip_prefix(b"refused problem ") == Some(words.as_bytes())
 }
 
 /// Facts, and what they are refused for; `read` where they are read.
 const FACTS: &[(&[u8], &str)] = &[
     (b"{}", "read"),
     (br#"{"lesson":[],"room":[]}"#, "read"),
-    (br#"{"room":{}}"#, "shape /facts/room"),
-    (br#"{"room":[[]]}"#, "shape /facts/room/0"),
-    (br#"{"room":[{"capacity":1}]}"#, "shape /facts/room/0/id"),
+    (br#"{"room":{}}"#, "shape /facts/room\n"),
+    (br#"{"room":[[]]}"#, "shape /facts/room/0\n"),
+    (br#"{"room":[{"capacity":1}]}"#, "shape /facts/room/0/id\n"),
     (
         br#"{"room":[{"id":0,"capacity":1}]}"#,
-        "shape /facts/room/0/id",
+        "shape /facts/room/0/id\n",
     ),
     (
         br#"{"room":[{"id":1000000001,"capacity":1}]}"#,
-        "shape /facts/room/0/id",
+        "shape /facts/room/0/id\n",
     ),
     (
         br#"{"room":[{"id":1.0,"capacity":1}]}"#,
-        "shape /facts/room/0/id",
+        "shape /facts/room/0/id\n",
     ),
     (
         br#"{"room":[{"id":1000000000,"capacity":1},{"id":2}]}"#,
-        "shape /facts/room/1/capacity",
+        "shape /facts/room/1/capacity\n",
     ),
     (
         br#"{"room":[{"id":1,"capacity":"x"}]}"#,
-        "shape /facts/room/0/capacity",
+        "shape /facts/room/0/capacity\n",
     ),
     (
         br#"{"room":[{"id":1,"capacity":1,"x":1}]}"#,
-        "shape /facts/room/0",
+        "shape /facts/room/0\n",
     ),
     (
         br#"{"room":[{"id":1,"capacity":1,"pinned":true}]}"#,
-        "shape /facts/room/0",
+        "shape /facts/room/0\n",
     ),
-    (br#"{"rum":[]}"#, "shape /facts"),
-    (br#"{"rum":[],"room":[{"x":1}]}"#, "shape /facts/room/0/id"),
+    (br#"{"rum":[]}"#, "shape /facts\n"),
+    (
+        br#"{"rum":[],"room":[{"x":1}]}"#,
+        "shape /facts/room/0/id\n",
+    ),
     (br#"{"room":[{"id":1,"capacity":1000000000}]}"#, "read"),
     (br#"{"room":[{"id":1,"capacity":-1000000000}]}"#, "read"),
     (
         br#"{"room":[{"id":1,"capacity":1000000001}]}"#,
-        "bad_field room#1 capacity",
+        "bad_field room#1 capacity\n",
     ),
     (
         br#"{"room":[{"id":1,"capacity":-1000000001}]}"#,
-        "bad_field room#1 capacity",
+        "bad_field room#1 capacity\n",
     ),
     (
         br#"{"room":[{"id":1,"capacity":1},{"id":1,"capacity":1}]}"#,
-        "double_id room#1",
+        "double_id room#1\n",
     ),
 ];
 
@@ -148,85 +128,83 @@ const LESSONS: &[(&[(&[u8], &[u8])], &str)] = &[
             (b"s", br#","id":1,"pinned":true"#),
             (b"", br#","id":2,"pinned":false,"slot":9"#),
         ],
-        "bad_field lesson#2 subject",
+        "bad_field lesson#2 subject\n",
     ),
     (
         &[(b"s", br#","id":1,"pinned":null"#)],
-        "shape /facts/lesson/0/pinned",
+        "shape /facts/lesson/0/pinned\n",
     ),
     (
         &[(b"s", br#","id":1,"pinned":"true","x":1"#)],
-        "shape /facts/lesson/0/pinned",
+        "shape /facts/lesson/0/pinned\n",
     ),
     (
         &[(b"s", br#","id":1,"pinned":1,"slot":0"#)],
-        "shape /facts/lesson/0/slot",
+        "shape /facts/lesson/0/slot\n",
     ),
     (
         &[(b"s", br#","id":1,"pinned":true,"x":1"#)],
-        "shape /facts/lesson/0",
+        "shape /facts/lesson/0\n",
     ),
     (
         &[(b"s", br#","id":1,"slot":"r""#)],
-        "shape /facts/lesson/0/slot",
+        "shape /facts/lesson/0/slot\n",
     ),
     (
         &[(b"s", br#","id":1,"slot":9"#), (b"s", br#","id":1"#)],
-        "double_id lesson#1",
+        "double_id lesson#1\n",
     ),
-    (&[(b"s", br#","id":1,"slot":9"#)], "bad_value lesson#1 slot"),
+    (
+        &[(b"s", br#","id":1,"slot":9"#)],
+        "bad_value lesson#1 slot\n",
+    ),
     (
         &[(b"s", br#","id":1,"slot":1,"room":2"#)],
-        "bad_value lesson#1 room",
+        "bad_value lesson#1 room\n",
     ),
     (
         &[(b"s", br#","id":2,"slot":9"#), (b"", br#","id":1"#)],
-        "bad_field lesson#1 subject",
+        "bad_field lesson#1 subject\n",
     ),
     (
         &[(b"", br#","id":1"#), (b"s", br#","id":2,"x":1"#)],
-        "shape /facts/lesson/1",
+        "shape /facts/lesson/1\n",
     ),
-    (&[(LONGER, br#","id":1"#)], "bad_field lesson#1 subject"),
+    (&[(LONGER, br#","id":1"#)], "bad_field lesson#1 subject\n"),
     (&[(LONG, br#","id":1"#)], "read"),
 ];
 
-/// Fails where these facts aren't answered so.
-fn expect_answer(
-    rt: &impl Abort,
-    alloc: Global,
-    answer: Result<Records, ProblemFault>,
-    want: &str,
-) -> Result<(), Fail> {
-    let words = answer_words(alloc, answer)?;
-    assert_eq!(rt; words.as_str(), want);
-    Ok(())
-}
-
-/// Fails where the facts of these bytes aren't answered so.
-fn try_facts(
-    rt: &impl Abort,
-    alloc: Global,
-    schema: &Schema,
-    facts: &[u8],
-    want: &str,
-) -> Result<(), Fail> {
-    let facts = read_value(alloc, facts)?;
-    expect_answer(rt, alloc, read_records(alloc, schema, &facts), want)
-}
-
-/// Fails where facts aren't answered as the table says.
-fn expect_facts(rt: &impl Abort, alloc: Global, schema: &Schema) -> Result<(), Fail> {
-    for (facts, want) in FACTS {
-        try_facts(rt, alloc, schema, facts, want)?;
+/// Whether the facts are answered so.
+fn is_answered(alloc: Global, schema: &Schema, facts: &Value, wanted: &str) -> bool {
+    match read_records(alloc, schema, facts) {
+        Ok(_) => wanted == "read",
+        Err(fault) => has_words(alloc, &fault, wanted),
     }
-    Ok(())
+}
+
+/// Whether the facts of these bytes are answered so.
+fn answers(alloc: Global, schema: &Schema, facts: &[u8], wanted: &str) -> bool {
+    match read_value(alloc, facts) {
+        Ok(facts) => is_answered(alloc, schema, &facts, wanted),
+        Err(_) => false,
+    }
+}
+
+/// The place of the first facts that are answered otherwise.
+fn wrong_facts(alloc: Global, schema: &Schema) -> Option<usize> {
+    for (place, (facts, wanted)) in FACTS.iter().enumerate() {
+        if !answers(alloc, schema, facts, wanted) {
+            return Some(place);
+        }
+    }
+    None
 }
 
 #[test]
 fn refuses_the_first_bad_thing(rt: HostRuntime) -> Result<(), Fail> {
     let schema = schema_of(rt.alloc(), TIMETABLE)?;
-    expect_facts(&rt, rt.alloc(), &schema)
+    assert!(rt; wrong_facts(rt.alloc(), &schema) == None);
+    Ok(())
 }
 
 /// Writes a lesson behind a comma, if there is one.
@@ -253,31 +231,32 @@ fn push_lessons(out: &mut Vec<u8>, lessons: &[(&[u8], &[u8])]) -> Result<(), Mem
     Ok(())
 }
 
-/// Fails where facts with these lessons aren't answered so.
-fn try_lessons(
-    rt: &impl Abort,
+/// Whether facts with these lessons are answered so.
+fn answers_lessons(
     alloc: Global,
     schema: &Schema,
     lessons: &[(&[u8], &[u8])],
-    want: &str,
-) -> Result<(), Fail> {
+    wanted: &str,
+) -> bool {
     let mut facts = Vec::new(alloc);
-    push_lessons(&mut facts, lessons)?;
-    try_facts(rt, alloc, schema, &facts, want)
+    push_lessons(&mut facts, lessons).is_ok() && answers(alloc, schema, &facts, wanted)
 }
 
-/// Fails where lessons aren't answered as the table says.
-fn expect_lessons(rt: &impl Abort, alloc: Global, schema: &Schema) -> Result<(), Fail> {
-    for (lessons, want) in LESSONS {
-        try_lessons(rt, alloc, schema, lessons, want)?;
+/// The place of the first lessons that are answered otherwise.
+fn wrong_lessons(alloc: Global, schema: &Schema) -> Option<usize> {
+    for (place, (lessons, wanted)) in LESSONS.iter().enumerate() {
+        if !answers_lessons(alloc, schema, lessons, wanted) {
+            return Some(place);
+        }
     }
-    Ok(())
+    None
 }
 
 #[test]
 fn refuses_the_first_bad_lesson(rt: HostRuntime) -> Result<(), Fail> {
     let schema = schema_of(rt.alloc(), TIMETABLE)?;
-    expect_lessons(&rt, rt.alloc(), &schema)
+    assert!(rt; wrong_lessons(rt.alloc(), &schema) == None);
+    Ok(())
 }
 
 /// Writes a room behind a comma, its id with seven digits.
@@ -300,31 +279,19 @@ fn push_rooms(out: &mut Vec<u8>, count: u32) -> Result<(), Memory> {
     Ok(())
 }
 
-/// Fails where facts with so many rooms aren't answered so.
-fn try_rooms(
-    rt: &impl Abort,
-    alloc: Global,
-    schema: &Schema,
-    count: u32,
-    want: &str,
-) -> Result<(), Fail> {
+/// Whether facts with so many rooms are answered so.
+fn answers_rooms(alloc: Global, schema: &Schema, count: u32, wanted: &str) -> bool {
     let mut facts = Vec::new(alloc);
-    push_rooms(&mut facts, count)?;
-    try_facts(rt, alloc, schema, &facts, want)
-}
-
-/// Fails where facts at the limit aren't answered as they should be.
-fn expect_rooms(rt: &impl Abort, alloc: Global, schema: &Schema) -> Result<(), Fail> {
-    for (count, want) in [(100_000, "read"), (100_001, "too_many_facts")] {
-        try_rooms(rt, alloc, schema, count, want)?;
-    }
-    Ok(())
+    push_rooms(&mut facts, count).is_ok() && answers(alloc, schema, &facts, wanted)
 }
 
 #[test]
 fn reads_as_many_records_as_a_plan_may_have(rt: HostRuntime) -> Result<(), Fail> {
     let schema = schema_of(rt.alloc(), TIMETABLE)?;
-    expect_rooms(&rt, rt.alloc(), &schema)
+    let most = answers_rooms(rt.alloc(), &schema, 100_000, "read");
+    let more = answers_rooms(rt.alloc(), &schema, 100_001, "too_many_facts\n");
+    assert!(rt; most && more);
+    Ok(())
 }
 
 /// Facts whose names stand in no order of their own.
@@ -345,39 +312,51 @@ const RECORDS: [Wanted; 4] = [
     Wanted(BLOCK, 3, &[3, 2], &[], false),
 ];
 
-/// Fails where the plan doesn't have the record.
-fn expect_record(rt: &impl Abort, plan: &Plan, wanted: Wanted) {
-    let Some(raw) = plan.raw(wanted.0, wanted.1) else {
-        panic!(rt; "no such record");
-    };
-    assert_eq!(rt; raw.fields.as_slice(), wanted.2);
-    assert_eq!(rt; raw.values.as_slice(), wanted.3);
-    assert_eq!(rt; raw.pinned, wanted.4);
-}
-
-/// Fails where these aren't the records and the names of the facts.
-fn expect_named(rt: &impl Abort, read: &Records) {
-    for wanted in RECORDS {
-        expect_record(rt, &read.plan, wanted);
-    }
-    assert_eq!(rt; (read.plan.made(), read.names.count()), (4, 4));
-    assert_eq!(rt; read.names.find(b"bob"), Some(3));
-}
-
-/// Fails where the facts aren't read as they should be.
-fn try_named(rt: &impl Abort, alloc: Global, schema: &Schema) -> Result<(), Fail> {
-    let facts = read_value(alloc, NAMED)?;
-    match read_records(alloc, schema, &facts) {
-        Ok(read) => {
-            expect_named(rt, &read);
-            Ok(())
+/// Whether the plan has the record.
+fn has(plan: &Plan, wanted: &Wanted) -> bool {
+    match plan.raw(wanted.0, wanted.1) {
+        Some(raw) => {
+            raw.fields.as_slice() == wanted.2
+                && raw.values.as_slice() == wanted.3
+                && raw.pinned == wanted.4
         }
-        Err(_) => Err("refused".into()),
+        None => false,
+    }
+}
+
+/// The id of the first record that the plan doesn't have.
+fn wrong_record(plan: &Plan) -> Option<u32> {
+    for wanted in &RECORDS {
+        if !has(plan, wanted) {
+            return Some(wanted.1);
+        }
+    }
+    None
+}
+
+/// Whether the facts are read as these records, and four names, of which `bob` is the third.
+fn reads_named(alloc: Global, schema: &Schema, facts: &Value) -> bool {
+    match read_records(alloc, schema, facts) {
+        Ok(read) => {
+            wrong_record(&read.plan) == None
+                && (read.plan.made(), read.names.count()) == (4, 4)
+                && read.names.find(b"bob") == Some(3)
+        }
+        Err(_) => false,
+    }
+}
+
+/// Whether the facts of the text are read so.
+fn reads_text(alloc: Global, schema: &Schema) -> bool {
+    match read_value(alloc, NAMED) {
+        Ok(facts) => reads_named(alloc, schema, &facts),
+        Err(_) => false,
     }
 }
 
 #[test]
 fn numbers_names_in_the_order_of_the_facts(rt: HostRuntime) -> Result<(), Fail> {
     let schema = schema_of(rt.alloc(), TIMETABLE)?;
-    try_named(&rt, rt.alloc(), &schema)
+    assert!(rt; reads_text(rt.alloc(), &schema));
+    Ok(())
 }

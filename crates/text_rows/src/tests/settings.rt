@@ -1,6 +1,6 @@
 //! Roots, settings and weights of problems, and what the first bad one is refused for.
 
-use super::fixtures::{expect_line, rule_of};
+use super::fixtures::{has_line, rule_of};
 use json_values::read_value;
 use plan_facts::Memory;
 use plan_rules::RuleDef;
@@ -8,7 +8,6 @@ use plan_settings::{AcceptorKind, Construction, Early, Selector, Settings};
 use problem_settings::{Format, check_root, read_settings, read_weights};
 use serde_json::Value;
 use std::alloc::Global;
-use std::process::Abort;
 use std::test::Fail;
 
 /// Roots, beside what is written of them.
@@ -158,74 +157,73 @@ const NEW_SETTINGS: [(&[u8], &[u8]); 6] = [
     ),
 ];
 
-/// Fails where something else is written of the root.
-fn try_root(rt: &impl Abort, alloc: Global, text: &[u8], wanted: &[u8]) -> Result<(), Fail> {
-    let root = read_value(alloc, text)?;
-    expect_line(rt, alloc, check_root(alloc, &root), wanted)
+/// Whether this is written of the root.
+fn answers_root(alloc: Global, text: &[u8], wanted: &[u8]) -> bool {
+    match read_value(alloc, text) {
+        Ok(root) => has_line(alloc, check_root(alloc, &root).err(), wanted),
+        Err(_) => false,
+    }
+}
+
+/// The place of the first root of which something else is written.
+fn wrong_root(alloc: Global) -> Option<usize> {
+    for (place, (text, wanted)) in ROOTS.iter().enumerate() {
+        if !answers_root(alloc, text, wanted) {
+            return Some(place);
+        }
+    }
+    None
 }
 
 #[test]
 fn refuses_roots_by_the_first_wrong_member(rt: HostRuntime) -> Result<(), Fail> {
-    for (text, wanted) in &ROOTS {
-        try_root(&rt, rt.alloc(), text, wanted)?;
-    }
+    assert!(rt; wrong_root(rt.alloc()) == None);
     Ok(())
 }
 
-/// Fails where something else is written of the settings.
-fn try_settings(
-    rt: &impl Abort,
-    alloc: Global,
-    format: Format,
-    text: &[u8],
-    wanted: &[u8],
-) -> Result<(), Fail> {
-    let value = read_value(alloc, text)?;
-    expect_line(
-        rt,
-        alloc,
-        read_settings(alloc, format, Some(&value)),
-        wanted,
-    )
+/// Whether this is written of the settings.
+fn answers_settings(alloc: Global, format: Format, text: &[u8], wanted: &[u8]) -> bool {
+    match read_value(alloc, text) {
+        Ok(told) => has_line(
+            alloc,
+            read_settings(alloc, format, Some(&told)).err(),
+            wanted,
+        ),
+        Err(_) => false,
+    }
 }
 
-/// Fails where something else is written of one of these settings.
-fn try_all_settings(
-    rt: &impl Abort,
-    alloc: Global,
-    format: Format,
-    rows: &[(&[u8], &[u8])],
-) -> Result<(), Fail> {
-    for (text, wanted) in rows {
-        try_settings(rt, alloc, format, text, wanted)?;
+/// The place of the first of these settings of which something else is written.
+fn wrong_settings(alloc: Global, format: Format, rows: &[(&[u8], &[u8])]) -> Option<usize> {
+    for (place, (text, wanted)) in rows.iter().enumerate() {
+        if !answers_settings(alloc, format, text, wanted) {
+            return Some(place);
+        }
     }
-    Ok(())
+    None
 }
 
 #[test]
 fn refuses_settings_in_their_order(rt: HostRuntime) -> Result<(), Fail> {
-    try_all_settings(&rt, rt.alloc(), Format::One, &SETTINGS)?;
-    try_all_settings(&rt, rt.alloc(), Format::Two, &NEW_SETTINGS)
-}
-
-/// Fails where the root isn't of the format.
-fn expect_format(rt: &impl Abort, alloc: Global, root: &Value, wanted: Format) -> Result<(), Fail> {
-    let format = check_root(alloc, root)?;
-    assert_eq!(rt; format, wanted);
+    let first = wrong_settings(rt.alloc(), Format::One, &SETTINGS);
+    let second = wrong_settings(rt.alloc(), Format::Two, &NEW_SETTINGS);
+    assert!(rt; (first, second) == (None, None));
     Ok(())
 }
 
-/// Fails where the root isn't of the format.
-fn try_format(rt: &impl Abort, alloc: Global, text: &[u8], wanted: Format) -> Result<(), Fail> {
-    let root = read_value(alloc, text)?;
-    expect_format(rt, alloc, &root, wanted)
+/// Whether the root is of the format.
+fn is_of(alloc: Global, text: &[u8], wanted: Format) -> bool {
+    match read_value(alloc, text) {
+        Ok(root) => matches!(check_root(alloc, &root), Ok(format) if format == wanted),
+        Err(_) => false,
+    }
 }
 
 #[test]
 fn roots_name_their_format(rt: HostRuntime) -> Result<(), Fail> {
-    for (text, format) in [(ROOTS[0].0, Format::One), (ROOTS[1].0, Format::Two)] {
-        try_format(&rt, rt.alloc(), text, format)?;
-    }
+    let first = is_of(rt.alloc(), ROOTS[0].0, Format::One);
+    let second = is_of(rt.alloc(), ROOTS[1].0, Format::Two);
+    assert!(rt; first && second);
     Ok(())
 }
 
@@ -280,33 +278,33 @@ const WANTED: Wanted = Wanted {
     construction: Construction::Decreasing,
 };
 
-/// Fails where the settings don't have what is wanted.
-fn expect_settings(rt: &impl Abort, read: &Settings, wanted: &Wanted) {
-    assert_eq!(rt; numbers(read), wanted.numbers);
-    assert_eq!(rt; read.pick_early, wanted.pick_early);
-    assert_eq!(rt; read.acceptor, wanted.acceptor);
-    assert_eq!(rt; read.selectors.as_slice(), wanted.selectors);
-    assert_eq!(rt; read.construction, wanted.construction);
+/// Whether the settings have what is wanted.
+fn have(read: &Settings, wanted: &Wanted) -> bool {
+    numbers(read) == wanted.numbers
+        && (read.pick_early, read.acceptor) == (wanted.pick_early, wanted.acceptor)
+        && read.selectors.as_slice() == wanted.selectors
+        && read.construction == wanted.construction
+}
+
+/// Whether settings of the format are read so.
+fn reads(alloc: Global, format: Format, told: Option<&Value>, wanted: &Wanted) -> bool {
+    match read_settings(alloc, format, told) {
+        Ok(read) => have(&read, wanted),
+        Err(_) => false,
+    }
 }
 
 #[test]
 fn settings_have_usual_values(rt: HostRuntime) -> Result<(), Fail> {
-    let usual = read_settings(rt.alloc(), Format::One, None)?;
-    expect_settings(&rt, &usual, &USUAL);
-    Ok(())
-}
-
-/// Fails where the settings of format 2 that say all aren't read as they say.
-fn expect_told(rt: &impl Abort, alloc: Global, told: &Value) -> Result<(), Fail> {
-    let read = read_settings(alloc, Format::Two, Some(told))?;
-    expect_settings(rt, &read, &WANTED);
+    assert!(rt; reads(rt.alloc(), Format::One, None, &USUAL));
     Ok(())
 }
 
 #[test]
 fn reads_settings(rt: HostRuntime) -> Result<(), Fail> {
     let told = read_value(rt.alloc(), TOLD)?;
-    expect_told(&rt, rt.alloc(), &told)
+    assert!(rt; reads(rt.alloc(), Format::Two, Some(&told), &WANTED));
+    Ok(())
 }
 
 /// Two rules, of weight 1 and 7.
@@ -348,67 +346,61 @@ const WEIGHTS: [(&[u8], [u32; 2]); 3] = [
     ),
 ];
 
-/// Fails where something else is written of the weights.
-fn try_bad_weights(
-    rt: &impl Abort,
-    alloc: Global,
-    rules: &[RuleDef],
-    text: &[u8],
-    wanted: &[u8],
-) -> Result<(), Fail> {
-    let value = read_value(alloc, text)?;
-    expect_line(rt, alloc, read_weights(alloc, rules, Some(&value)), wanted)
+/// Whether this is written of the weights.
+fn answers_weights(alloc: Global, rules: &[RuleDef], text: &[u8], wanted: &[u8]) -> bool {
+    match read_value(alloc, text) {
+        Ok(told) => has_line(alloc, read_weights(alloc, rules, Some(&told)).err(), wanted),
+        Err(_) => false,
+    }
 }
 
-/// Fails where something else is written of weights that are refused.
-fn expect_refused(rt: &impl Abort, alloc: Global, rules: &[RuleDef]) -> Result<(), Fail> {
-    for (text, wanted) in &BAD_WEIGHTS {
-        try_bad_weights(rt, alloc, rules, text, wanted)?;
+/// The place of the first weights that are refused of which something else is written.
+fn wrong_refusal(alloc: Global, rules: &[RuleDef]) -> Option<usize> {
+    for (place, (text, wanted)) in BAD_WEIGHTS.iter().enumerate() {
+        if !answers_weights(alloc, rules, text, wanted) {
+            return Some(place);
+        }
     }
-    Ok(())
+    None
 }
 
 #[test]
 fn refuses_weights_in_rule_order(rt: HostRuntime) -> Result<(), Fail> {
     let rules = rules(rt.alloc())?;
-    expect_refused(&rt, rt.alloc(), &rules)
-}
-
-/// Fails where the rules don't get these weights.
-fn expect_weights(
-    rt: &impl Abort,
-    alloc: Global,
-    rules: &[RuleDef],
-    value: Option<&Value>,
-    wanted: &[u32],
-) -> Result<(), Fail> {
-    let read = read_weights(alloc, rules, value)?;
-    assert_eq!(rt; read.as_slice(), wanted);
+    assert!(rt; wrong_refusal(rt.alloc(), &rules) == None);
     Ok(())
 }
 
-/// Fails where the rules don't get these weights.
-fn try_weights(
-    rt: &impl Abort,
-    alloc: Global,
-    rules: &[RuleDef],
-    text: &[u8],
-    wanted: &[u32],
-) -> Result<(), Fail> {
-    let value = read_value(alloc, text)?;
-    expect_weights(rt, alloc, rules, Some(&value), wanted)
+/// Whether the rules get these weights.
+fn weigh(alloc: Global, rules: &[RuleDef], told: Option<&Value>, wanted: &[u32]) -> bool {
+    match read_weights(alloc, rules, told) {
+        Ok(read) => read.as_slice() == wanted,
+        Err(_) => false,
+    }
 }
 
-/// Fails where the rules don't get the weights that the table says, or else their own ones.
-fn expect_read(rt: &impl Abort, alloc: Global, rules: &[RuleDef]) -> Result<(), Fail> {
-    for (text, wanted) in &WEIGHTS {
-        try_weights(rt, alloc, rules, text, wanted)?;
+/// Whether the rules get these weights of a text.
+fn weigh_as_told(alloc: Global, rules: &[RuleDef], text: &[u8], wanted: &[u32]) -> bool {
+    match read_value(alloc, text) {
+        Ok(told) => weigh(alloc, rules, Some(&told), wanted),
+        Err(_) => false,
     }
-    expect_weights(rt, alloc, rules, None, &[1, 7])
+}
+
+/// The place of the first weights that are read otherwise.
+fn wrong_weights(alloc: Global, rules: &[RuleDef]) -> Option<usize> {
+    for (place, (text, wanted)) in WEIGHTS.iter().enumerate() {
+        if !weigh_as_told(alloc, rules, text, wanted) {
+            return Some(place);
+        }
+    }
+    None
 }
 
 #[test]
 fn reads_weights_in_rule_order(rt: HostRuntime) -> Result<(), Fail> {
     let rules = rules(rt.alloc())?;
-    expect_read(&rt, rt.alloc(), &rules)
+    let own = weigh(rt.alloc(), &rules, None, &[1, 7]);
+    assert!(rt; (wrong_weights(rt.alloc(), &rules), own) == (None, true));
+    Ok(())
 }

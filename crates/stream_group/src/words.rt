@@ -96,9 +96,9 @@ pub fn note_places(
     ensures after { let there = filter_map (finmap.get members.now.rows.now) places.now in
         IfSome result (λ more. WordTakes words.after more.after (numbers_staying width run.now there)) }
 {
-    let mut sofar = words;
+    let mut so_far = words;
     for place in places {
-        sofar = note_place(members, *place, run, width, sofar)?;
+        so_far = note_place(members, *place, run, width, so_far)?;
     }
-    Some(sofar)
+    Some(so_far)
 }

@@ -16,21 +16,21 @@ loop-place-preserved c =
     let i = c.loop-place.place-index in
     let there = filter_map at (take i c.args.places.now) in
     let old = c.args.words in
-    let was = c.loop-place.sofar in
-    let new = c.in_ok-sofar.sofar in
+    let was = c.loop-place.so_far in
+    let new = c.in_ok-so_far.so_far in
     record {
       before = subst (WordTakes old.before new.before) (sym (numbers_more width at c.args.places.now i c.loop-place-test.true))
-          (takes_on old.before was.before new.before (map (number_in width) there) _ c.loop-place.invariant.before c.in_ok-sofar.ensures.before);
+          (takes_on old.before was.before new.before (map (number_in width) there) _ c.loop-place.invariant.before c.in_ok-so_far.ensures.before);
       after = subst (WordTakes old.after new.after) (sym (staying_more width run at c.args.places.now i c.loop-place-test.true))
-          (takes_on old.after was.after new.after (numbers_staying width run there) _ c.loop-place.invariant.after c.in_ok-sofar.ensures.after);
+          (takes_on old.after was.after new.after (numbers_staying width run there) _ c.loop-place.invariant.after c.in_ok-so_far.ensures.after);
     }
 
 pub returns-clause-before : goal.returns-clause-before
 returns-clause-before c =
     let at = finmap.get c.args.members.now.rows.now in
-    subst (WordTakes c.args.words.before c.loop-place.sofar.before) (ap (λ (ps : List ℕ). map (number_in c.args.width) (filter_map at ps)) (take_all c.loop-place.place-index c.args.places.now c.loop-place-test.false)) c.loop-place.invariant.before
+    subst (WordTakes c.args.words.before c.loop-place.so_far.before) (ap (λ (ps : List ℕ). map (number_in c.args.width) (filter_map at ps)) (take_all c.loop-place.place-index c.args.places.now c.loop-place-test.false)) c.loop-place.invariant.before
 
 pub returns-clause-after : goal.returns-clause-after
 returns-clause-after c =
     let at = finmap.get c.args.members.now.rows.now in
-    subst (WordTakes c.args.words.after c.loop-place.sofar.after) (ap (λ (ps : List ℕ). numbers_staying c.args.width c.args.run.now (filter_map at ps)) (take_all c.loop-place.place-index c.args.places.now c.loop-place-test.false)) c.loop-place.invariant.after
+    subst (WordTakes c.args.words.after c.loop-place.so_far.after) (ap (λ (ps : List ℕ). numbers_staying c.args.width c.args.run.now (filter_map at ps)) (take_all c.loop-place.place-index c.args.places.now c.loop-place-test.false)) c.loop-place.invariant.after

@@ -10,6 +10,6 @@ abbrev pub invariant-loop-place : goal.invariant-loop-place
 invariant-loop-place l =
     let there = filter_map (finmap.get l.members.rows.now) (take l.place-index l.places) in
     record {
-      before : WordTakes l.fn.words.before l.sofar.before (map (number_in l.width) there);
-      after : WordTakes l.fn.words.after l.sofar.after (numbers_staying l.width l.run there);
+      before : WordTakes l.fn.words.before l.so_far.before (map (number_in l.width) there);
+      after : WordTakes l.fn.words.after l.so_far.after (numbers_staying l.width l.run there);
     }

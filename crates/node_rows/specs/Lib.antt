@@ -1,3 +1,4 @@
+pub mod Asked
 pub mod Ids
 pub mod Plain
 pub mod Turns

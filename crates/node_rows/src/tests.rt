@@ -8,5 +8,6 @@ mod heads;
 mod index;
 mod join;
 mod keys;
+mod network;
 mod pairs;
 mod store;

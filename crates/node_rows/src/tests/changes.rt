@@ -260,34 +260,65 @@ fn held_field(rec: &Rec) -> Option<i64> {
     held.fields.get(0).copied()
 }
 
-/// A record in short: its class, its id, its first field, how many variables it has, and what the first one holds.
-type Short = ((u8, u32), Option<i64>, (usize, Option<i64>));
+/// A class and an id, and of the record of these, if there is one, the first field, how many variables it has, and the
+/// first field of the value that the first one holds.
+type Resolved = (u8, u32, Option<(Option<i64>, usize, Option<i64>)>);
 
-/// The record of a fact, as the heads resolve it, in short. It passes through the heads then.
-fn short_of(heads: &mut Heads, plan: &Plan, class: u8, id: u32) -> Result<Option<Short>, Memory> {
-    let Some(rec) = heads.resolved(plan, class, id)? else {
-        return Ok(None);
+const RESOLVED: &[Resolved] = &[
+    (TASK, 2, Some((None, 1, Some(20)))),
+    (SLOT, 1, Some((Some(10), 0, None))),
+    (TASK, 1, Some((None, 1, None))),
+    (TASK, 3, Some((None, 1, Some(10)))),
+    (TASK, 4, None),
+];
+
+/// Whether a record is as it should be.
+fn is_wanted(rec: &Rec, wanted: &Resolved) -> bool {
+    let Some((field, variables, held)) = wanted.2 else {
+        return false;
     };
-    let variables = (rec.planned.len(), held_field(&rec));
-    let short = ((rec.class, rec.id), rec.fields.get(0).copied(), variables);
+    rec.class == wanted.0
+        && rec.id == wanted.1
+        && rec.fields.get(0).copied() == field
+        && rec.planned.len() == variables
+        && held_field(rec) == held
+}
+
+/// Whether the heads resolve the record of a fact as they should. It passes through the heads then.
+fn resolves(heads: &mut Heads, plan: &Plan, wanted: &Resolved) -> Result<bool, Memory> {
+    let Some(rec) = heads.resolved(plan, wanted.0, wanted.1)? else {
+        return Ok(wanted.2.is_none());
+    };
+    let is_right = is_wanted(&rec, wanted);
     passes_through(heads, rec)?;
-    Ok(Some(short))
+    Ok(is_right)
+}
+
+/// The class and the id of the first fact that the heads don't resolve as they should.
+fn wrong_of(heads: &mut Heads, plan: &Plan) -> Result<Option<(u8, u32)>, Memory> {
+    for wanted in RESOLVED {
+        if !resolves(heads, plan, wanted)? {
+            return Ok(Some((wanted.0, wanted.1)));
+        }
+    }
+    Ok(None)
+}
+
+/// The class and the id of the first fact that new heads don't resolve as they should.
+fn wrong_in(alloc: Global, plan: &Plan) -> Result<Option<(u8, u32)>, Memory> {
+    let mut heads = Heads::new(alloc);
+    wrong_of(&mut heads, plan)
+}
+
+/// The class and the id of the first fact of the first tasks' plan that isn't resolved as it should be.
+fn wrong_resolved(alloc: Global) -> Result<Option<(u8, u32)>, Fail> {
+    let plan = plan_with(alloc, BEFORE)?;
+    Ok(wrong_in(alloc, &plan)?)
 }
 
 #[test]
 fn records_are_resolved_in_the_memory_of_those_that_went(rt: HostRuntime) -> Result<(), Fail> {
-    let alloc = rt.alloc();
-    let plan = plan_with(alloc, BEFORE)?;
-    let mut heads = Heads::new(alloc);
-    let two = short_of(&mut heads, &plan, TASK, 2)?;
-    let slot = short_of(&mut heads, &plan, SLOT, 1)?;
-    let one = short_of(&mut heads, &plan, TASK, 1)?;
-    let three = short_of(&mut heads, &plan, TASK, 3)?;
-    let none = short_of(&mut heads, &plan, TASK, 4)?;
-    assert!(rt; two == Some(((TASK, 2), None, (1, Some(20)))));
-    assert!(rt; slot == Some(((SLOT, 1), Some(10), (0, None))));
-    assert!(rt; one == Some(((TASK, 1), None, (1, None))));
-    assert!(rt; three == Some(((TASK, 3), None, (1, Some(10)))));
-    assert!(rt; none.is_none());
+    let wrong = wrong_resolved(rt.alloc())?;
+    assert!(rt; wrong.is_none());
     Ok(())
 }

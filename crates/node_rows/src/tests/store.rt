@@ -50,13 +50,6 @@ fn kills_for_a_trial(store: &mut Store<u32>) -> Result<bool, Memory>
     Ok(was_live && within && has_rows(store, &[(n, 7)]))
 }
 
-#[test]
-fn a_rolled_back_trial_leaves_the_contents_of_a_store(rt: HostRuntime) -> Result<(), Fail> {
-    let mut store = Store::new(rt.alloc());
-    assert!(rt; kills_for_a_trial(&mut store)?);
-    Ok(())
-}
-
 /// Whether rows that a trial adds and kills are gone after it, and one that it kills of before is back.
 fn takes_all_back(store: &mut Store<u32>) -> Result<bool, Memory>
     requires { store.old.is_open ≡ false }
@@ -68,15 +61,6 @@ fn takes_all_back(store: &mut Store<u32>) -> Result<bool, Memory>
     store.add(3)?;
     store.rollback();
     Ok(were_live && has_rows(store, &[(v, 1)]))
-}
-
-#[test]
-fn rows_of_a_store_added_and_killed_in_one_trial_are_gone_after_it(
-    rt: HostRuntime,
-) -> Result<(), Fail> {
-    let mut store = Store::new(rt.alloc());
-    assert!(rt; takes_all_back(&mut store)?);
-    Ok(())
 }
 
 /// Whether what a trial adds and kills stays so after it, and a number that it frees is used again then, but not within it.
@@ -92,15 +76,6 @@ fn frees_a_number(store: &mut Store<u32>) -> Result<bool, Memory>
     let stays = has_rows(store, &[(b, 20), (c, 30)]);
     let d = store.add(40)?;
     Ok(was_live && c != a && stays && d == a)
-}
-
-#[test]
-fn a_committed_trial_of_a_store_stays_and_frees_its_killed_numbers(
-    rt: HostRuntime,
-) -> Result<(), Fail> {
-    let mut store = Store::new(rt.alloc());
-    assert!(rt; frees_a_number(&mut store)?);
-    Ok(())
 }
 
 /// Whether the last of 200 rows is found where the others were killed.
@@ -120,10 +95,46 @@ fn finds_the_last(store: &mut Store<u32>) -> Result<bool, Memory> {
     )
 }
 
+/// What a store should do, by the number of its case.
+const CASES: &[(u8, &str)] = &[
+    (0, "a rolled back trial leaves the contents"),
+    (1, "rows added and killed in one trial are gone after it"),
+    (2, "a committed trial stays and frees its killed numbers"),
+    (3, "numbers past the words are found"),
+];
+
+/// Whether a store does in a case what it should.
+fn does(store: &mut Store<u32>, case: u8) -> Result<bool, Memory>
+    requires { store.old.is_open ≡ false }
+{
+    match case {
+        0 => kills_for_a_trial(store),
+        1 => takes_all_back(store),
+        2 => frees_a_number(store),
+        _ => finds_the_last(store),
+    }
+}
+
+/// Whether a new store does in a case what it should.
+fn holds(alloc: Global, case: u8) -> Result<bool, Memory> {
+    let mut store = Store::new(alloc);
+    does(&mut store, case)
+}
+
+/// The first that a store should do and doesn't.
+fn wrong(alloc: Global) -> Result<Option<&'static str>, Memory> {
+    for (case, tried) in CASES {
+        if !holds(alloc, *case)? {
+            return Ok(Some(*tried));
+        }
+    }
+    Ok(None)
+}
+
 #[test]
-fn numbers_past_the_words_of_a_store_are_found(rt: HostRuntime) -> Result<(), Fail> {
-    let mut store = Store::new(rt.alloc());
-    assert!(rt; finds_the_last(&mut store)?);
+fn a_store_turns_as_was_worked_by_hand(rt: HostRuntime) -> Result<(), Fail> {
+    let wrong = wrong(rt.alloc())?;
+    assert!(rt; wrong.is_none(), "{wrong:?}");
     Ok(())
 }
 

@@ -3,5 +3,5 @@ use Rattle.node_rows.specs.Turns.{GroupStands}
 use Rattle.node_rows.proofs.tests.group.all_trials.Given as goal
 
 -- the node stands as it did
-abbrev pub invariant-loop-from : goal.invariant-loop-from
-invariant-loop-from g l = GroupStands false l.rules.numbers l.node
+abbrev pub invariant-loop-one : goal.invariant-loop-one
+invariant-loop-one g l = GroupStands false l.rules.numbers l.node

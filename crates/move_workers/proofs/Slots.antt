@@ -10,10 +10,9 @@ use Rattle.std.specs.Prelude.{Any}
 use Rattle.claim_board.specs.Boards.{BoardView, PassView, all_draws, once_below, times}
 use Rattle.claim_board.proofs.Gathers.{times-snoc}
 use Rattle.plan_search.specs.declared.found.Found.{Found}
-use Rattle.move_workers.specs.declared.job.Job.{Job}
+use Rattle.move_workers.specs.declared.job.Share.{Share}
 use Rattle.move_workers.specs.declared.job.Verdict.{Verdict}
 use Rattle.move_workers.specs.Jobs.{HaveFound, IsGathered, IsWorked, found_from, placed, verdict_by}
-use Rattle.move_workers.specs.Judging.{WorkerView}
 
 -- all but the last, and the last
 pub All-front : {X : Type 0} (P : X → Type 0) (xs : List X) (x : X) → All P (xs ++ x ∷ []) → All P xs
@@ -78,14 +77,14 @@ module _ (found : ℕ → Option Found) where
         | no here ↦ placed_at pass.draws slots k lt' (omega arith)
       ]
 
-  -- one worked job more is gathered
-  pub gathers : (board : BoardView) (worker : WorkerView) (passes : List PassView) (slots : List (Option Found)) (job : Job WorkerView)
-      → IsGathered board found passes slots → IsWorked board worker found job → job.is_short ≡ false
-      → IsGathered board found (passes ++ job.pass ∷ []) (placed slots job.verdicts.items)
-  gathers board worker passes slots job was is whole = record {
-    boards = All-push (λ pass. pass.board ≡ board) passes job.pass was.boards is.board_is;
-    done = All-push (λ pass. pass.is_done ≡ true) passes job.pass was.done (is.ended whole);
-    placed_all = rw (is.verdicts whole) (more_slots slots passes job.pass was.placed_all);
+  -- one worked share more is gathered
+  pub gathers : (board : BoardView) (passes : List PassView) (slots : List (Option Found)) (share : Share)
+      → IsGathered board found passes slots → IsWorked board found share → share.is_short ≡ false
+      → IsGathered board found (passes ++ share.pass ∷ []) (placed slots share.verdicts.items)
+  gathers board passes slots share was is whole = record {
+    boards = All-push (λ pass. pass.board ≡ board) passes share.pass was.boards is.board_is;
+    done = All-push (λ pass. pass.is_done ≡ true) passes share.pass was.done (is.ended whole);
+    placed_all = rw (is.verdicts whole) (more_slots slots passes share.pass was.placed_all);
   }
 
 -- slots with what is found at each place of a batch
@@ -103,6 +102,16 @@ none_gathered board found passes slots none = rw none (record {
   done = λ k d lt. absurd (omega arith);
   placed_all = λ place lt some. absurd (omega arith);
 })
+
+-- a share that was worked first is all that is gathered then
+pub first_gathered : (found : ℕ → Option Found) (board : BoardView) (share : Share) (slots filled : List (Option Found)) (old new : List PassView) → old ≡ []
+    → new ≡ old ++ share.pass ∷ [] → filled ≡ placed slots share.verdicts.items → IsWorked board found share → share.is_short ≡ false
+    → IsGathered board found new filled × (length new ≡ 1)
+first_gathered found board share slots filled old new none passes placed worked whole =
+    let was = none_gathered board found old slots none in (
+      rw (passes, placed) (gathers found board old slots share was worked whole),
+      (let e = ap length passes in let z = ap length none in omega (arith, length-append old (share.pass ∷ []))),
+    )
 
 -- passes from which nothing is left to draw drew all numbers below the limit
 pub all_drawn : (passes : List PassView) (limit count place : ℕ) → 0 < length passes → All (λ pass. pass.is_done ≡ true) passes

@@ -5,23 +5,23 @@ use Rattle.plan_rules.specs.declared.rule.RuleDef.{RuleDef}
 use Rattle.plan_rules.specs.Range.{MayJudge, sizes_of}
 use Rattle.plan_search.specs.declared.found.Found.{Found}
 use Rattle.move_workers.specs.declared.job.Job.{Job}
+use Rattle.move_workers.specs.declared.job.Share.{Share}
 use Rattle.move_workers.specs.declared.job.Verdict.{Verdict}
 use Rattle.move_workers.specs.Judging.{WorkerView}
 
--- a job has a pass of a board, and its worker has found nothing
-pub record IsIdle (board : BoardView) (worker : WorkerView) (job : Job WorkerView) : Type 0 where
-  pub worker_is : job.worker ≡ worker
-  pub pass_is : job.pass ≡ fresh_pass board
-  pub nothing : job.verdicts.items ≡ []
-  pub whole : job.is_short ≡ false
+-- a share with a pass of a board, and nothing found
+pub record IsIdle (board : BoardView) (share : Share) : Type 0 where
+  pub pass_is : share.pass ≡ fresh_pass board
+  pub nothing : share.verdicts.items ≡ []
+  pub whole : share.is_short ≡ false
 
--- a job with nothing found, whose worker may judge by rules under their weights, and draws by a seed
-pub record IsReady (board : BoardView) (rules : List RuleDef) (caps : List ℕ) (seed : ℕ) (job : Job WorkerView)
-    : Type 0 where
-  pub judges : MayJudge rules caps job.worker.director.weights (sizes_of job.worker.director.plan)
-  pub own : rules ≡ job.worker.director.rules
-  pub seed_is : seed ≡ job.worker.seed
-  pub idle : IsIdle board job.worker job
+-- a worker that may judge by rules under their weights, draws by a seed, and has found nothing in its share
+pub record IsReady (board : BoardView) (rules : List RuleDef) (caps : List ℕ) (seed : ℕ) (worker : WorkerView)
+    (share : Share) : Type 0 where
+  pub judges : MayJudge rules caps worker.director.weights (sizes_of worker.director.plan)
+  pub own : rules ≡ worker.director.rules
+  pub seed_is : seed ≡ worker.seed
+  pub idle : IsIdle board share
 
 -- the verdict on a place of the batch, by what is found at each
 abbrev pub verdict_by : (ℕ → Option Found) → ℕ → Verdict
@@ -35,15 +35,19 @@ found_from found first place = found (first + place)
 abbrev pub AreBelow : ℕ → List Verdict → Type 0
 AreBelow limit verdicts = All (λ verdict. verdict.place < limit) verdicts
 
--- a worker stayed as it was, and worked with its pass of this board; unless memory was wanting, there was nothing
--- left to draw, and each draw has its verdict
-pub record IsWorked (board : BoardView) (worker : WorkerView) (found : ℕ → Option Found) (job : Job WorkerView)
+-- a share of this board was worked on; unless memory was wanting, there was nothing left to draw, and each draw has
+-- its verdict
+pub record IsWorked (board : BoardView) (found : ℕ → Option Found) (share : Share) : Type 0 where
+  pub board_is : share.pass.board ≡ board
+  pub below : AreBelow board.limit share.verdicts.items
+  pub ended : share.is_short ≡ false → share.pass.is_done ≡ true
+  pub verdicts : share.is_short ≡ false → share.verdicts.items ≡ map (verdict_by found) share.pass.draws
+
+-- a job whose worker stayed as it was, and worked on its share
+pub record IsDone (board : BoardView) (worker : WorkerView) (found : ℕ → Option Found) (job : Job WorkerView)
     : Type 0 where
   pub worker_is : job.worker ≡ worker
-  pub board_is : job.pass.board ≡ board
-  pub below : AreBelow board.limit job.verdicts.items
-  pub ended : job.is_short ≡ false → job.pass.is_done ≡ true
-  pub verdicts : job.is_short ≡ false → job.verdicts.items ≡ map (verdict_by found) job.pass.draws
+  pub worked : IsWorked board found job.share
 
 -- the slots after these verdicts, each in its place
 abbrev pub placed : List (Option Found) → List Verdict → List (Option Found)

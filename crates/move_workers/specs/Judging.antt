@@ -1,5 +1,5 @@
 -- A worker as contracts see it, and what its calls find and leave.
-use Rattle.std.specs.Prelude.{◌≡◌, ℕ, IfSome, IsTrue, List, Option, option_map}
+use Rattle.std.specs.Prelude.{◌≡◌, ℕ, IsTrue, List, Option, option_map}
 use Rattle.std.specs.Option.{option_map_or}
 use Rattle.plan_facts.specs.Plan.{PlanView}
 use Rattle.plan_changes.specs.Ready.{ReadyView}
@@ -57,10 +57,9 @@ found_in m seed selectors makers step worker number =
 abbrev pub worker_of : DirectorView → ℕ → WorkerView
 worker_of director seed = record { director = director; seed = seed }
 
--- an answer is the edit that takes a played candidate back, where that may be made
-pub record TakesBack (before : WorkerView) (candidate answer : Option (List Set)) : Type 0 where
-  pub back : answer ≡ option_map (inverse_of before.director.plan) candidate
-  pub leads : IfSome answer (LeadsTo before.director.plan (played before candidate).director.plan)
+-- the worker with another director
+abbrev pub with_director : WorkerView → DirectorView → WorkerView
+with_director worker director = record worker { director = director }
 
 -- the worker once a change was made
 abbrev pub worker_after : WorkerView → ReadyView → List (List ℕ) → WorkerView

@@ -5,11 +5,12 @@ ghost use Rattle.plan_rules.specs.Meaning.{KeyAnswers, TestAnswers, WeighAnswers
 ghost use Rattle.plan_rules.specs.Range.{sizes_of};
 ghost use Rattle.plan_search.specs.declared.found.Found.{Found};
 ghost use Rattle.move_workers.specs.declared.job.Job.{Job};
-ghost use Rattle.move_workers.specs.Jobs.{AreBelow, IsGathered, IsIdle, IsReady, IsWorked, found_from, placed};
+ghost use Rattle.move_workers.specs.Jobs.{AreBelow, IsDone, IsGathered, IsIdle, IsReady, IsWorked, found_from, placed};
 ghost use Rattle.move_workers.specs.Judging.{WorkerView, found_in};
-ghost use Rattle.move_workers.specs.Teams.{AreAll, leader};
+ghost use Rattle.move_workers.specs.Teams.{AreAll};
 
-use crate::job::{Job, Verdict, judge_at, work};
+use crate::follower::Follower;
+use crate::job::{Job, Share, Verdict, judge_at, work};
 use crate::kit::Kit;
 use crate::worker::Worker;
 use claim_board::{Board, Pass};
@@ -35,12 +36,23 @@ fn empty_slots(alloc: Global, count: u32) -> Result<Vec<Option<Found>>, Memory>
     Ok(slots)
 }
 
-/// A job for each pass, with a worker.
+/// A share with nothing found yet.
+fn share_of(alloc: Global, pass: Pass) -> Share
+    ensures { (board : BoardView) → pass ≡ fresh_pass board → IsIdle board result }
+{
+    Share {
+        pass,
+        verdicts: Vec::new(alloc),
+        is_short: false,
+    }
+}
+
+/// A job for each pass, with a follower.
 fn deal<B: Book>(
     alloc: Global,
-    workers: &mut Vec<Worker<B>>,
+    workers: &mut Vec<Follower<B>>,
     mut passes: List<Pass>,
-    jobs: &mut Vec<Job<Worker<B>>>,
+    jobs: &mut Vec<Job<Follower<B>>>,
 )
     requires some { length passes ≤ vec_len workers.old }
     requires room { (vec_len jobs.old ≡ 0) × (length passes ≤ vec_capacity jobs.old) }
@@ -48,19 +60,17 @@ fn deal<B: Book>(
     ensures left { vec_len workers.new + length passes ≡ vec_len workers.old }
     ensures room { vec_capacity workers.new ≡ vec_capacity workers.old }
     ensures alike { (worker : WorkerView) → AreAll worker workers.old.items → AreAll worker workers.new.items }
-    ensures idle { (board : BoardView) (worker : WorkerView) → AreAll (fresh_pass board) passes
-        → AreAll worker workers.old.items → All (IsIdle board worker) jobs.new.items }
+    ensures dealt { (worker : WorkerView) → AreAll worker workers.old.items
+        → All (λ job. job.worker ≡ worker) jobs.new.items }
+    ensures idle { (board : BoardView) → AreAll (fresh_pass board) passes
+        → All (λ job. IsIdle board job.share) jobs.new.items }
 {
     'passes: while let Some(pass) = passes.pop() {
         let Some(worker) = workers.pop() else {
             unreachable!()
         };
-        jobs.push_reserved(Job {
-            worker,
-            pass,
-            verdicts: Vec::new(alloc),
-            is_short: false,
-        });
+        let share = share_of(alloc, pass);
+        jobs.push_reserved(Job { worker, share });
     }
 }
 
@@ -79,7 +89,7 @@ type Bodies = PhantomData<(TestBody, KeyBody, WeighBody)>;
 
 /// Works a job of a batch.
 fn work_one<B: Book, G: Gate>(
-    job: &mut Job<Worker<B>>,
+    job: &mut Job<Follower<B>>,
     batch: &Batch<'_, '_, B, G>,
     _bodies: Bodies,
 )
@@ -89,14 +99,14 @@ fn work_one<B: Book, G: Gate>(
     requires seed { batch.now.kit.now.seed ≡ job.old.worker.seed }
     requires step { 1 ≤ batch.now.step }
     requires fits { batch.now.first + batch.now.board.now.limit < 2 ^ 32 }
-    requires idle { IsIdle batch.now.board.now job.old.worker job.old }
+    requires idle { IsIdle batch.now.board.now job.old.share }
     ensures { let makes = map (λ maker. made maker) batch.now.kit.now.makers.now in
         let kit = batch.now.kit.now in
         let found = found_in B.meaning kit.seed kit.selectors.now makes batch.now.step job.old.worker in
-        IsWorked batch.now.board.now job.old.worker (found_from found batch.now.first) job.new }
+        IsDone batch.now.board.now job.old.worker (found_from found batch.now.first) job.new }
 {
-    work(
-        job,
+    job.worker.work(
+        &mut job.share,
         batch.kit,
         batch.gate,
         batch.board,
@@ -105,11 +115,44 @@ fn work_one<B: Book, G: Gate>(
     );
 }
 
-/// Each job is worked, in a thread of its own where one can be made.
+/// The lead works on its own share of a batch.
+fn work_own<B: Book, G: Gate>(
+    lead: &mut Worker<B>,
+    share: &mut Share,
+    batch: &Batch<'_, '_, B, G>,
+    _bodies: Bodies,
+)
+    requires judges { let seen = lead.old.director in
+        ⟦<Rules<B> as Judges>⟧.judges batch.now.kit.now.rules.now seen.weights (sizes_of seen.plan) }
+    requires own { batch.now.kit.now.rules.now.defs ≡ lead.old.director.rules }
+    requires seed { batch.now.kit.now.seed ≡ lead.old.seed }
+    requires step { 1 ≤ batch.now.step }
+    requires fits { batch.now.first + batch.now.board.now.limit < 2 ^ 32 }
+    requires idle { IsIdle batch.now.board.now share.old }
+    ensures worked { let makes = map (λ maker. made maker) batch.now.kit.now.makers.now in
+        let kit = batch.now.kit.now in
+        let found = found_in B.meaning kit.seed kit.selectors.now makes batch.now.step lead.old in
+        IsWorked batch.now.board.now (found_from found batch.now.first) share.new }
+    ensures same { lead.new ≡ lead.old }
+{
+    work(
+        lead,
+        share,
+        batch.kit,
+        batch.gate,
+        batch.board,
+        batch.step,
+        batch.first,
+    );
+}
+
+/// Each job is worked, in a thread of its own where one can be made, and the lead works on its share meanwhile.
 fn run_each<T: Threads + Sync, B: Book, G: Gate + Sync>(
     rt: &T,
     batch: &Batch<'_, '_, B, G>,
-    jobs: &mut [Job<Worker<B>>],
+    jobs: &mut [Job<Follower<B>>],
+    lead: &mut Worker<B>,
+    share: &mut Share,
     bodies: Bodies,
 )
     requires tests { All (λ test. TestAnswers (TestBody.post test.body) (B.meaning.test_of test.number))
@@ -118,35 +161,60 @@ fn run_each<T: Threads + Sync, B: Book, G: Gate + Sync>(
         batch.now.kit.now.rules.now.keys }
     requires weighs { All (λ w. WeighAnswers (WeighBody.post w.body) w.cap (B.meaning.weight_of w.number))
         batch.now.kit.now.rules.now.weighs }
-    requires ready { let rules = batch.now.kit.now.rules.now in
-        All (IsReady batch.now.board.now rules.defs rules.caps batch.now.kit.now.seed) jobs.old }
+    requires ready { let kit = batch.now.kit.now in let rules = kit.rules.now in
+        All (λ job. IsReady batch.now.board.now rules.defs rules.caps kit.seed job.worker job.share) jobs.old }
+    requires lead_ready { let kit = batch.now.kit.now in let rules = kit.rules.now in
+        IsReady batch.now.board.now rules.defs rules.caps kit.seed lead.old share.old }
     requires step { 1 ≤ batch.now.step }
     requires fits { batch.now.first + batch.now.board.now.limit < 2 ^ 32 }
-    ensures { let makes = map (λ maker. made maker) batch.now.kit.now.makers.now in
+    ensures done { let makes = map (λ maker. made maker) batch.now.kit.now.makers.now in
         let found = found_in B.meaning batch.now.kit.now.seed batch.now.kit.now.selectors.now makes batch.now.step in
         (i : ℕ) (d : Job WorkerView) → i < length jobs.old → let worker = (slice_index_or jobs.old i d).worker in
-        IsWorked batch.now.board.now worker (found_from (found worker) batch.now.first) (slice_index_or jobs.new i d) }
+        IsDone batch.now.board.now worker (found_from (found worker) batch.now.first) (slice_index_or jobs.new i d) }
+    ensures worked { let makes = map (λ maker. made maker) batch.now.kit.now.makers.now in
+        let found = found_in B.meaning batch.now.kit.now.seed batch.now.kit.now.selectors.now makes batch.now.step in
+        IsWorked batch.now.board.now (found_from (found lead.old) batch.now.first) share.new }
+    ensures same { lead.new ≡ lead.old }
 {
+    let mut own = ||
+        requires tests { All (λ test. TestAnswers (TestBody.post test.body) (B.meaning.test_of test.number))
+            batch.now.kit.now.rules.now.tests }
+        requires keys { All (λ key. KeyAnswers (KeyBody.post key.body) (B.meaning.key_of key.number))
+            batch.now.kit.now.rules.now.keys }
+        requires weighs { All (λ w. WeighAnswers (WeighBody.post w.body) w.cap (B.meaning.weight_of w.number))
+            batch.now.kit.now.rules.now.weighs }
+        requires ready { let kit = batch.now.kit.now in let rules = kit.rules.now in
+            IsReady batch.now.board.now rules.defs rules.caps kit.seed lead.now share.now }
+        requires at { (1 ≤ batch.now.step) × (batch.now.first + batch.now.board.now.limit < 2 ^ 32) }
+        ensures worked { let batch = batch.entry.now in
+            let makes = map (λ maker. made maker) batch.kit.now.makers.now in
+            let found = found_in B.meaning batch.kit.now.seed batch.kit.now.selectors.now makes batch.step in
+            IsWorked batch.board.now (found_from (found lead.entry.now) batch.first) share.exit.now }
+        ensures same { lead.exit.now ≡ lead.entry.now }
+    {
+        work_own(lead, share, batch, bodies);
+    };
     each_beside(
         rt,
         jobs,
-        &|_place: usize, job: &mut Job<Worker<B>>|
+        &|_place: usize, job: &mut Job<Follower<B>>|
             requires tests { All (λ test. TestAnswers (TestBody.post test.body) (B.meaning.test_of test.number))
                 batch.now.kit.now.rules.now.tests }
             requires keys { All (λ key. KeyAnswers (KeyBody.post key.body) (B.meaning.key_of key.number))
                 batch.now.kit.now.rules.now.keys }
             requires weighs { All (λ w. WeighAnswers (WeighBody.post w.body) w.cap (B.meaning.weight_of w.number))
                 batch.now.kit.now.rules.now.weighs }
-            requires ready { let rules = batch.now.kit.now.rules.now in
-                IsReady batch.now.board.now rules.defs rules.caps batch.now.kit.now.seed job.old }
+            requires ready { let kit = batch.now.kit.now in let rules = kit.rules.now in
+                IsReady batch.now.board.now rules.defs rules.caps kit.seed job.old.worker job.old.share }
             requires at { (1 ≤ batch.now.step) × (batch.now.first + batch.now.board.now.limit < 2 ^ 32) }
             ensures { let batch = batch.entry.now in
                 let makes = map (λ maker. made maker) batch.kit.now.makers.now in
                 let found = found_in B.meaning batch.kit.now.seed batch.kit.now.selectors.now makes batch.step in
-                IsWorked batch.board.now job.old.worker (found_from (found job.old.worker) batch.first) job.new }
+                IsDone batch.board.now job.old.worker (found_from (found job.old.worker) batch.first) job.new }
         {
             work_one(job, batch, bodies);
         },
+        &mut own,
     );
 }
 
@@ -154,20 +222,28 @@ fn run_each<T: Threads + Sync, B: Book, G: Gate + Sync>(
 fn run_jobs<T: Threads + Sync, B: Book, G: Gate + Sync>(
     rt: &T,
     batch: &Batch<'_, '_, B, G>,
-    jobs: &mut Vec<Job<Worker<B>>>,
+    jobs: &mut Vec<Job<Follower<B>>>,
+    lead: &mut Worker<B>,
+    share: &mut Share,
 )
     requires keeps { ⟦<Rules<B> as Kept>⟧.keeps batch.now.kit.now.rules.now }
-    requires ready { let rules = batch.now.kit.now.rules.now in
-        All (IsReady batch.now.board.now rules.defs rules.caps batch.now.kit.now.seed) jobs.old.items }
+    requires ready { let kit = batch.now.kit.now in let rules = kit.rules.now in
+        All (λ job. IsReady batch.now.board.now rules.defs rules.caps kit.seed job.worker job.share) jobs.old.items }
+    requires lead_ready { let kit = batch.now.kit.now in let rules = kit.rules.now in
+        IsReady batch.now.board.now rules.defs rules.caps kit.seed lead.old share.old }
     requires step { 1 ≤ batch.now.step }
     requires fits { batch.now.first + batch.now.board.now.limit < 2 ^ 32 }
-    ensures worked { let makes = map (λ maker. made maker) batch.now.kit.now.makers.now in
+    ensures done { let makes = map (λ maker. made maker) batch.now.kit.now.makers.now in
         let found = found_in B.meaning batch.now.kit.now.seed batch.now.kit.now.selectors.now makes batch.now.step in
         (worker : WorkerView) → All (λ job. job.worker ≡ worker) jobs.old.items
-        → All (IsWorked batch.now.board.now worker (found_from (found worker) batch.now.first)) jobs.new.items }
+        → All (IsDone batch.now.board.now worker (found_from (found worker) batch.now.first)) jobs.new.items }
+    ensures worked { let makes = map (λ maker. made maker) batch.now.kit.now.makers.now in
+        let found = found_in B.meaning batch.now.kit.now.seed batch.now.kit.now.selectors.now makes batch.now.step in
+        IsWorked batch.now.board.now (found_from (found lead.old) batch.now.first) share.new }
+    ensures same { lead.new ≡ lead.old }
     ensures len { vec_len jobs.new ≡ vec_len jobs.old }
 {
-    run_each(rt, batch, jobs.as_mut_slice(), PhantomData);
+    run_each(rt, batch, jobs.as_mut_slice(), lead, share, PhantomData);
 }
 
 /// Puts what was found into a slot.
@@ -196,30 +272,19 @@ fn place_in(slots: &mut Vec<Option<Found>>, verdicts: Vec<Verdict>)
     place(slots.as_mut_slice(), verdicts);
 }
 
-/// Takes a job apart: its worker and its pass go back, and what it found into its slots. False where memory was wanting.
-fn take_apart<B: Book>(
-    job: Job<Worker<B>>,
-    workers: &mut Vec<Worker<B>>,
-    passes: &mut List<Pass>,
-    slots: &mut Vec<Option<Found>>,
-) -> bool
-    requires room { vec_len workers.old < vec_capacity workers.old }
-    requires below { AreBelow (vec_len slots.old) job.verdicts.items }
-    ensures workers { workers.new.items ≡ workers.old.items ++ job.worker ∷ [] }
-    ensures count { vec_len workers.new ≡ vec_len workers.old + 1 }
-    ensures room { vec_capacity workers.new ≡ vec_capacity workers.old }
+/// Takes a share: its pass goes back, and what was found into its slots. False where memory was wanting.
+fn take_share(share: Share, passes: &mut List<Pass>, slots: &mut Vec<Option<Found>>) -> bool
+    requires below { AreBelow (vec_len slots.old) share.verdicts.items }
     ensures len { vec_len slots.new ≡ vec_len slots.old }
-    ensures passes { result ≡ true → passes.new ≡ passes.old ++ job.pass ∷ [] }
-    ensures whole { result ≡ true → job.is_short ≡ false }
-    ensures slots { result ≡ true → slots.new.items ≡ placed slots.old.items job.verdicts.items }
+    ensures passes { result ≡ true → passes.new ≡ passes.old ++ share.pass ∷ [] }
+    ensures whole { result ≡ true → share.is_short ≡ false }
+    ensures slots { result ≡ true → slots.new.items ≡ placed slots.old.items share.verdicts.items }
 {
-    let Job {
-        worker,
+    let Share {
         pass,
         verdicts,
         is_short,
-    } = job;
-    workers.push_reserved(worker);
+    } = share;
     if is_short {
         return false;
     }
@@ -227,27 +292,29 @@ fn take_apart<B: Book>(
     passes.push(pass).is_ok()
 }
 
-/// Takes all jobs apart. False where memory was wanting.
+/// Takes all jobs apart: their workers go back, and so do their shares. False where memory was wanting.
 fn gather<B: Book>(
-    mut jobs: Vec<Job<Worker<B>>>,
-    workers: &mut Vec<Worker<B>>,
+    mut jobs: Vec<Job<Follower<B>>>,
+    workers: &mut Vec<Follower<B>>,
     passes: &mut List<Pass>,
     slots: &mut Vec<Option<Found>>,
 ) -> bool
     requires room { vec_len workers.old + vec_len jobs ≤ vec_capacity workers.old }
-    requires below { All (λ job. AreBelow (vec_len slots.old) job.verdicts.items) jobs.items }
-    requires none { passes.old ≡ [] }
+    requires below { All (λ job. AreBelow (vec_len slots.old) job.share.verdicts.items) jobs.items }
     ensures workers { vec_len workers.new ≡ vec_len workers.old + vec_len jobs }
     ensures alike { (worker : WorkerView) → AreAll worker workers.old.items
         → All (λ job. job.worker ≡ worker) jobs.items → AreAll worker workers.new.items }
     ensures len { vec_len slots.new ≡ vec_len slots.old }
-    ensures passes { result ≡ true → length passes.new ≡ vec_len jobs }
+    ensures passes { result ≡ true → length passes.new ≡ length passes.old + vec_len jobs }
     ensures gathered { result ≡ true → (board : BoardView) (worker : WorkerView) (found : ℕ → Option Found)
-        → All (IsWorked board worker found) jobs.items → IsGathered board found passes.new slots.new.items }
+        → IsGathered board found passes.old slots.old.items → All (IsDone board worker found) jobs.items
+        → IsGathered board found passes.new slots.new.items }
 {
     let mut is_whole = true;
     'jobs: while let Some(job) = jobs.pop() {
-        let taken = take_apart(job, workers, passes, slots);
+        let Job { worker, share } = job;
+        workers.push_reserved(worker);
+        let taken = take_share(share, passes, slots);
         if !taken {
             is_whole = false;
         }
@@ -255,37 +322,43 @@ fn gather<B: Book>(
     is_whole
 }
 
-/// What is found of so many candidates, by as many workers at once as there are passes.
+/// What is found of so many candidates, by as many workers at once as there are hands: the lead, and some of the others.
 fn judged_at_once<T: Threads + Sync, B: Book, G: Gate + Sync>(
     rt: &T,
     alloc: Global,
     kit: &Kit<'_, B>,
     gate: &G,
-    workers: &mut Vec<Worker<B>>,
+    lead: &mut Worker<B>,
+    others: &mut Vec<Follower<B>>,
     hands: u32,
     step: u32,
     first: u32,
     count: u32,
 ) -> Result<Vec<Option<Found>>, Memory>
-    requires hands { (1 ≤ hands) × (hands ≤ 16) × (hands ≤ vec_len workers.old) }
-    requires alike { AreAll (leader workers.old.items) workers.old.items }
-    requires judges { let seen = (leader workers.old.items).director in
+    requires hands { (1 ≤ hands) × (hands ≤ 16) × (hands ≤ vec_len others.old + 1) }
+    requires alike { AreAll lead.old others.old.items }
+    requires judges { let seen = lead.old.director in
         ⟦<Rules<B> as Judges>⟧.judges kit.now.rules.now seen.weights (sizes_of seen.plan) }
-    requires own { kit.now.rules.now.defs ≡ (leader workers.old.items).director.rules }
-    requires seed { kit.now.seed ≡ (leader workers.old.items).seed }
+    requires own { kit.now.rules.now.defs ≡ lead.old.director.rules }
+    requires seed { kit.now.seed ≡ lead.old.seed }
     requires step { 1 ≤ step }
     requires fits { first + count < 2 ^ 32 }
     ensures found { let makes = map (λ maker. made maker) kit.now.makers.now in
-        let found = found_in B.meaning kit.now.seed kit.now.selectors.now makes step (leader workers.old.items) in
+        let found = found_in B.meaning kit.now.seed kit.now.selectors.now makes step lead.old in
         IfOk result (λ all. all.items ≡ map found (range_with_len first count)) }
-    ensures len { vec_len workers.new ≡ vec_len workers.old }
-    ensures alike { AreAll (leader workers.old.items) workers.new.items }
+    ensures same { lead.new ≡ lead.old }
+    ensures len { vec_len others.new ≡ vec_len others.old }
+    ensures alike { AreAll lead.old others.new.items }
 {
     let mut slots = empty_slots(alloc, count)?;
     let mut jobs = Vec::with_capacity(alloc, hands as usize)?;
     let mut returned = List::new(alloc);
-    let (board, passes) = Board::new(alloc, count, hands)?;
-    deal(alloc, workers, passes, &mut jobs);
+    let (board, mut passes) = Board::new(alloc, count, hands)?;
+    let Some(pass) = passes.pop() else {
+        unreachable!()
+    };
+    let mut share = share_of(alloc, pass);
+    deal(alloc, others, passes, &mut jobs);
     let batch = Batch {
         kit,
         gate,
@@ -293,16 +366,18 @@ fn judged_at_once<T: Threads + Sync, B: Book, G: Gate + Sync>(
         step,
         first,
     };
-    run_jobs(rt, &batch, &mut jobs);
-    let is_whole = gather(jobs, workers, &mut returned, &mut slots);
-    if !is_whole {
+    run_jobs(rt, &batch, &mut jobs, lead, &mut share);
+    let is_taken = take_share(share, &mut returned, &mut slots);
+    let is_whole = gather(jobs, others, &mut returned, &mut slots);
+    if !is_taken || !is_whole {
         return Err(Memory);
     }
     board.close(returned);
     Ok(slots)
 }
 
-/// What a worker finds of so many candidates from the first number on, in order, in the thread that calls. It stays as it was.
+/// What a worker finds of so many candidates from the first number on, in order, in the thread that calls. No thread is started
+/// and no board is made. It stays as it was.
 fn judged_in_turn<B: Book, G: Gate>(
     alloc: Global,
     kit: &Kit<'_, B>,
@@ -331,64 +406,39 @@ fn judged_in_turn<B: Book, G: Gate>(
     Ok(all)
 }
 
-/// What is found of so many candidates from the first number on, in order, by the first worker, in the thread that calls. No
-/// thread is started and no board is made. The workers stay as they were.
-fn judged_alone<B: Book, G: Gate>(
-    alloc: Global,
-    kit: &Kit<'_, B>,
-    gate: &G,
-    workers: &mut Vec<Worker<B>>,
-    step: u32,
-    first: u32,
-    count: u32,
-) -> Result<Vec<Option<Found>>, Memory>
-    requires some { 1 ≤ vec_len workers.old }
-    requires alike { AreAll (leader workers.old.items) workers.old.items }
-    requires judges { let seen = (leader workers.old.items).director in
-        ⟦<Rules<B> as Judges>⟧.judges kit.now.rules.now seen.weights (sizes_of seen.plan) }
-    requires own { kit.now.rules.now.defs ≡ (leader workers.old.items).director.rules }
-    requires seed { kit.now.seed ≡ (leader workers.old.items).seed }
-    requires step { 1 ≤ step }
-    requires fits { first + count < 2 ^ 32 }
-    ensures found { let makes = map (λ maker. made maker) kit.now.makers.now in
-        let found = found_in B.meaning kit.now.seed kit.now.selectors.now makes step (leader workers.old.items) in
-        IfOk result (λ all. all.items ≡ map found (range_with_len first count)) }
-    ensures len { vec_len workers.new ≡ vec_len workers.old }
-    ensures alike { AreAll (leader workers.old.items) workers.new.items }
-{
-    judged_in_turn(alloc, kit, gate, &mut workers[0], step, first, count)
-}
-
 /// What is found of so many candidates from the first number on, in order, by as many workers as there are candidates for. The
-/// workers stay as they were. Where one worker is enough, it judges all of them in turn in the thread that calls: no thread is
-/// started and no board is made.
+/// workers stay as they were. Where one worker is enough, the lead judges all of them in turn in the thread that calls.
 pub fn judged_by<T: Threads + Sync, B: Book, G: Gate + Sync>(
     rt: &T,
     alloc: Global,
     kit: &Kit<'_, B>,
     gate: &G,
-    workers: &mut Vec<Worker<B>>,
+    lead: &mut Worker<B>,
+    others: &mut Vec<Follower<B>>,
     step: u32,
     first: u32,
     count: u32,
 ) -> Result<Vec<Option<Found>>, Memory>
-    requires workers { (1 ≤ vec_len workers.old) × (vec_len workers.old ≤ 16) }
-    requires alike { AreAll (leader workers.old.items) workers.old.items }
-    requires judges { let seen = (leader workers.old.items).director in
+    requires others { vec_len others.old ≤ 15 }
+    requires alike { AreAll lead.old others.old.items }
+    requires judges { let seen = lead.old.director in
         ⟦<Rules<B> as Judges>⟧.judges kit.now.rules.now seen.weights (sizes_of seen.plan) }
-    requires own { kit.now.rules.now.defs ≡ (leader workers.old.items).director.rules }
-    requires seed { kit.now.seed ≡ (leader workers.old.items).seed }
+    requires own { kit.now.rules.now.defs ≡ lead.old.director.rules }
+    requires seed { kit.now.seed ≡ lead.old.seed }
     requires step { 1 ≤ step }
     requires fits { first + count < 2 ^ 32 }
     ensures found { let makes = map (λ maker. made maker) kit.now.makers.now in
-        let found = found_in B.meaning kit.now.seed kit.now.selectors.now makes step (leader workers.old.items) in
+        let found = found_in B.meaning kit.now.seed kit.now.selectors.now makes step lead.old in
         IfOk result (λ all. all.items ≡ map found (range_with_len first count)) }
-    ensures len { vec_len workers.new ≡ vec_len workers.old }
-    ensures alike { AreAll (leader workers.old.items) workers.new.items }
+    ensures same { lead.new ≡ lead.old }
+    ensures len { vec_len others.new ≡ vec_len others.old }
+    ensures alike { AreAll lead.old others.new.items }
 {
-    let hands = count.min(workers.len() as u32).max(1);
-    if hands == 1 {
-        return judged_alone(alloc, kit, gate, workers, step, first, count);
+    let hands = count.min(others.len() as u32 + 1);
+    if hands <= 1 {
+        return judged_in_turn(alloc, kit, gate, lead, step, first, count);
     }
-    judged_at_once(rt, alloc, kit, gate, workers, hands, step, first, count)
+    judged_at_once(
+        rt, alloc, kit, gate, lead, others, hands, step, first, count,
+    )
 }

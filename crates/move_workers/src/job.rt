@@ -19,13 +19,19 @@ pub struct Verdict {
     pub found: Option<Found>,
 }
 
-/// What a worker has during a batch: its pass, its verdicts so far, and whether memory was wanting.
+/// What a worker has of a batch: its pass, its verdicts so far, and whether memory was wanting.
 #[derive(Drop)]
-pub struct Job<W> {
-    pub worker: W,
+pub struct Share {
     pub pass: Pass,
     pub verdicts: Vec<Verdict>,
     pub is_short: bool,
+}
+
+/// A worker with its share of a batch.
+#[derive(Drop)]
+pub struct Job<W> {
+    pub worker: W,
+    pub share: Share,
 }
 
 /// Enters the gate, and judges a step's candidate then.
@@ -52,33 +58,35 @@ pub fn judge_at<B: Book, G: Gate>(
 
 /// Draws places of a batch, and judges the candidate of each, until there is none left or memory is wanting.
 pub fn work<B: Book, G: Gate>(
-    job: &mut Job<Worker<B>>,
+    worker: &mut Worker<B>,
+    share: &mut Share,
     kit: &Kit<'_, B>,
     gate: &G,
     board: &Board,
     step: u32,
     first: u32,
 )
-    requires judges { let seen = job.old.worker.director in
+    requires judges { let seen = worker.old.director in
         ⟦<Rules<B> as Judges>⟧.judges kit.now.rules.now seen.weights (sizes_of seen.plan) }
-    requires own { kit.now.rules.now.defs ≡ job.old.worker.director.rules }
-    requires seed { kit.now.seed ≡ job.old.worker.seed }
+    requires own { kit.now.rules.now.defs ≡ worker.old.director.rules }
+    requires seed { kit.now.seed ≡ worker.old.seed }
     requires step { 1 ≤ step }
     requires fits { first + board.now.limit < 2 ^ 32 }
-    requires idle { IsIdle board.now job.old.worker job.old }
-    ensures { let makes = map (λ maker. made maker) kit.now.makers.now in
-        let found = found_in B.meaning kit.now.seed kit.now.selectors.now makes step job.old.worker in
-        IsWorked board.now job.old.worker (found_from found first) job.new }
+    requires idle { IsIdle board.now share.old }
+    ensures worked { let makes = map (λ maker. made maker) kit.now.makers.now in
+        let found = found_in B.meaning kit.now.seed kit.now.selectors.now makes step worker.old in
+        IsWorked board.now (found_from found first) share.new }
+    ensures same { worker.new ≡ worker.old }
 {
-    'draws: while let Some(place) = board.draw(&mut job.pass) {
-        if job.verdicts.reserve(1).is_err() {
-            job.is_short = true;
+    'draws: while let Some(place) = board.draw(&mut share.pass) {
+        if share.verdicts.reserve(1).is_err() {
+            share.is_short = true;
             return;
         }
-        let Ok(found) = judge_at(&mut job.worker, kit, gate, step, first + place) else {
-            job.is_short = true;
+        let Ok(found) = judge_at(worker, kit, gate, step, first + place) else {
+            share.is_short = true;
             return;
         };
-        job.verdicts.push_reserved(Verdict { place, found });
+        share.verdicts.push_reserved(Verdict { place, found });
     }
 }

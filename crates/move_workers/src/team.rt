@@ -1,19 +1,22 @@
-ghost use Rattle.std.specs.Prelude.{◌≡◌, ◌≤◌, ◌∷◌, ◌++◌, [], IfOk, None, OnErr, OnOk, length, map, take, vec_len};
+ghost use Rattle.std.specs.Prelude.{◌≡◌, ◌≤◌, ◌∷◌, ◌++◌, [], All, IfOk, IfSome, List, None, OnErr, OnOk, Some, length, map, vec_len};
+ghost use Rattle.plan_facts.specs.declared.record.ClassDef.{ClassDef};
+ghost use Rattle.plan_changes.specs.Fits.{IsOfSchema};
 ghost use Rattle.plan_changes.specs.Performed.{HasRoom, MayPerform, names_after, plan_after, weights_after};
 ghost use Rattle.plan_rules.specs.Range.{sizes_of};
 ghost use Rattle.score_director.specs.View.{at_rest};
-ghost use Rattle.move_workers.specs.Judging.{TakesBack, candidate_in, played, worker_after, worker_of};
-ghost use Rattle.move_workers.specs.Teams.{AreAll, leader};
+ghost use Rattle.move_workers.specs.Judging.{HasPlayed, LeadsTo, WorkerView, candidate_in, played, with_director, worker_after, worker_of};
+ghost use Rattle.move_workers.specs.Teams.{AreAll, MayMake};
 
 use crate::alone::director_alone;
 use crate::batch::judged_by;
+use crate::follower::Follower;
 use crate::kit::Kit;
 use crate::worker::Worker;
 use plan_changes::Ready;
 use plan_facts::{List, Memory, Names, Plan};
 use plan_moves::{Edit, MoveMaker};
 use plan_ports::Gate;
-use plan_rules::{Book, Judges, Rules};
+use plan_rules::{Book, Judges, Kept, Rules};
 use plan_scores::PlanScore;
 use plan_search::Found;
 use score_director::Director;
@@ -21,238 +24,261 @@ use std::alloc::Global;
 use std::marker::Model;
 use std::thread::Threads;
 
-/// A team of 1 to 16 workers on equal plans, which judge the candidates of a step at once. It is torn once memory was
-/// wanting while its workers played or changed: they may be on different plans then, and it is of no use any more.
+/// A team of 1 to 16 workers on equal plans, which judge the candidates of a step at once: a lead, and others that follow it.
+/// It is torn once memory was wanting while its workers played or changed: they may be on different plans then, and it is of
+/// no use any more.
 #[derive(Drop)]
 pub struct Team<B: Book> {
     alloc: Global,
-    workers: Vec<Worker<B>>,
+    lead: Box<Worker<B>>,
+    others: Vec<Follower<B>>,
     is_torn: bool,
 }
 
 impl<B: Book> Model for Team<B> {
-    ghost use Rattle.std.specs.Prelude.{vec_len};
-    ghost use Rattle.move_workers.specs.Teams.{IsTeam, TeamView, leader};
+    ghost use Rattle.std.specs.Prelude.{◌+◌, vec_len};
+    ghost use Rattle.move_workers.specs.Teams.{IsTeam, TeamView};
 
     ghost Value = { TeamView };
 
-    ghost view = { λ t. record { worker = leader t.workers.items; workers = vec_len t.workers; is_torn = t.is_torn } };
+    ghost view = { λ t. record { worker = t.lead.value; workers = vec_len t.others + 1; is_torn = t.is_torn } };
 
-    ghost invariant = { λ t. IsTeam t.workers.items t.is_torn };
+    ghost invariant = { λ t. IsTeam t.lead.value t.others.items t.is_torn };
 }
 
-/// Adds a worker on a copy of a director's plan.
-fn add_copy<B: Book>(
+/// A director of a copy of another one's plan, under the same weights.
+fn twin_of<B: Book>(
     alloc: Global,
     kit: &Kit<'_, B>,
     director: &Director<B>,
     weights: &[u32],
-    workers: &mut Vec<Worker<B>>,
+) -> Result<Director<B>, Memory>
+    requires rest { director.now ≡ at_rest kit.now.rules.now.defs weights.now director.now.plan }
+    requires judges { ⟦<Rules<B> as Judges>⟧.judges kit.now.rules.now weights.now (sizes_of director.now.plan) }
+    ensures { IfOk result (λ twin. twin ≡ director.now) }
+{
+    let plan = director.plan().copy()?;
+    let weights = List::from_slice(alloc, weights)?;
+    director_alone(alloc, kit.rules, plan, weights)
+}
+
+/// A worker on a director's plan, in memory of its own, so that a team isn't larger than what is lent of it.
+fn lead_on<B: Book>(
+    alloc: Global,
+    kit: &Kit<'_, B>,
+    director: Director<B>,
+) -> Result<Box<Worker<B>>, Memory>
+    requires { director.base ≡ None }
+    ensures { IfOk result (λ lead. lead.value ≡ worker_of director kit.now.seed) }
+{
+    let lead = Worker::new(alloc, kit, director)?;
+    Ok(Box::new(alloc, lead)?)
+}
+
+/// Adds a follower on a copy of a director's plan.
+fn add_follower<B: Book>(
+    alloc: Global,
+    kit: &Kit<'_, B>,
+    director: &Director<B>,
+    weights: &[u32],
+    others: &mut Vec<Follower<B>>,
 ) -> Result<(), Memory>
     requires rest { director.now ≡ at_rest kit.now.rules.now.defs weights.now director.now.plan }
     requires judges { ⟦<Rules<B> as Judges>⟧.judges kit.now.rules.now weights.now (sizes_of director.now.plan) }
     ensures { let worker = worker_of director.now kit.now.seed in
-        OnOk result (workers.new.items ≡ workers.old.items ++ worker ∷ []) }
+        OnOk result (others.new.items ≡ others.old.items ++ worker ∷ []) }
 {
-    let plan = director.plan().copy()?;
-    let weights = List::from_slice(alloc, weights)?;
-    let copy = director_alone(alloc, kit.rules, plan, weights)?;
-    workers.push(Worker::new(alloc, kit, copy)?)?;
+    let twin = twin_of(alloc, kit, director, weights)?;
+    others.push(Follower::new(Worker::new(alloc, kit, twin)?))?;
     Ok(())
 }
 
-/// Adds a worker on a director's plan.
-fn add_worker<B: Book>(
+/// So many followers on copies of a director's plan.
+fn followers_of<B: Book>(
     alloc: Global,
     kit: &Kit<'_, B>,
-    director: Director<B>,
-    workers: &mut Vec<Worker<B>>,
-) -> Result<(), Memory>
-    requires rest { director.base ≡ None }
-    ensures { let worker = worker_of director kit.now.seed in
-        OnOk result (workers.new.items ≡ workers.old.items ++ worker ∷ []) }
-{
-    workers.push(Worker::new(alloc, kit, director)?)?;
-    Ok(())
-}
-
-/// So many workers: one on a director's plan, the others on copies of it.
-fn workers_on<B: Book>(
-    alloc: Global,
-    kit: &Kit<'_, B>,
-    director: Director<B>,
+    director: &Director<B>,
     weights: &[u32],
-    workers: u32,
-) -> Result<Vec<Worker<B>>, Memory>
-    requires some { 1 ≤ workers }
-    requires rest { director ≡ at_rest kit.now.rules.now.defs weights.now director.plan }
-    requires judges { ⟦<Rules<B> as Judges>⟧.judges kit.now.rules.now weights.now (sizes_of director.plan) }
-    ensures alike { IfOk result (λ all. AreAll (worker_of director kit.now.seed) all.items) }
-    ensures len { IfOk result (λ all. length all.items ≡ workers) }
+    count: u32,
+) -> Result<Vec<Follower<B>>, Memory>
+    requires rest { director.now ≡ at_rest kit.now.rules.now.defs weights.now director.now.plan }
+    requires judges { ⟦<Rules<B> as Judges>⟧.judges kit.now.rules.now weights.now (sizes_of director.now.plan) }
+    ensures alike { IfOk result (λ all. AreAll (worker_of director.now kit.now.seed) all.items) }
+    ensures len { IfOk result (λ all. vec_len all ≡ count) }
 {
-    let mut all = Vec::with_capacity(alloc, workers as usize)?;
-    'copies: for _ in 0..workers - 1 {
-        add_copy(alloc, kit, &director, weights, &mut all)?;
+    let mut all = Vec::with_capacity(alloc, count as usize)?;
+    'copies: for _ in 0..count {
+        add_follower(alloc, kit, director, weights, &mut all)?;
     }
-    add_worker(alloc, kit, director, &mut all)?;
     Ok(all)
 }
 
-/// A worker plays a step's candidate. Gives the edit that takes it back.
-fn play_one<B: Book>(
+/// A follower follows its lead, which has made an edit.
+fn follow_one<B: Book>(
+    alloc: Global,
     kit: &Kit<'_, B>,
-    worker: &mut Worker<B>,
-    step: u32,
-    number: u32,
-) -> Result<Option<Edit>, Memory>
-    requires judges { let seen = worker.old.director in
-        ⟦<Rules<B> as Judges>⟧.judges kit.now.rules.now seen.weights (sizes_of seen.plan) }
-    requires own { kit.now.rules.now.defs ≡ worker.old.director.rules }
-    requires seed { kit.now.seed ≡ worker.old.seed }
-    requires step { 1 ≤ step }
-    ensures played { let makes = map (λ maker. made maker) kit.now.makers.now in
-        let candidate = candidate_in kit.now.seed kit.now.selectors.now makes step number worker.old in
-        OnOk result (worker.new ≡ played worker.old candidate) }
-    ensures back { let makes = map (λ maker. made maker) kit.now.makers.now in
-        let candidate = candidate_in kit.now.seed kit.now.selectors.now makes step number worker.old in
-        IfOk result (TakesBack worker.old candidate) }
-{
-    let back = worker.play(kit, step, number)?;
-    Ok(back)
-}
-
-/// Each worker plays a step's candidate. Gives the edit that takes it back.
-fn play_each<B: Book>(
-    kit: &Kit<'_, B>,
-    workers: &mut [Worker<B>],
-    step: u32,
-    number: u32,
-) -> Result<Option<Edit>, Memory>
-    requires some { 1 ≤ length workers.old }
-    requires alike { AreAll (leader workers.old) workers.old }
-    requires judges { let seen = (leader workers.old).director in
-        ⟦<Rules<B> as Judges>⟧.judges kit.now.rules.now seen.weights (sizes_of seen.plan) }
-    requires own { kit.now.rules.now.defs ≡ (leader workers.old).director.rules }
-    requires seed { kit.now.seed ≡ (leader workers.old).seed }
-    requires step { 1 ≤ step }
-    ensures played { let makes = map (λ maker. made maker) kit.now.makers.now in
-        let candidate = candidate_in kit.now.seed kit.now.selectors.now makes step number (leader workers.old) in
-        OnOk result (AreAll (played (leader workers.old) candidate) workers.new) }
-    ensures back { let makes = map (λ maker. made maker) kit.now.makers.now in
-        let candidate = candidate_in kit.now.seed kit.now.selectors.now makes step number (leader workers.old) in
-        IfOk result (TakesBack (leader workers.old) candidate) }
-    ensures sizes { let seen = (leader workers.old).director in
-        OnOk result (sizes_of (leader workers.new).director.plan ≡ sizes_of seen.plan) }
-{
-    let mut back = None;
-    'workers: for place in 0..workers.len() {
-        let taken = play_one(kit, &mut workers[place], step, number)?;
-        back = taken;
-    }
-    Ok(back)
-}
-
-/// The same of a whole list.
-fn play_all<B: Book>(
-    kit: &Kit<'_, B>,
-    workers: &mut Vec<Worker<B>>,
-    step: u32,
-    number: u32,
-) -> Result<Option<Edit>, Memory>
-    requires some { 1 ≤ vec_len workers.old }
-    requires alike { AreAll (leader workers.old.items) workers.old.items }
-    requires judges { let seen = (leader workers.old.items).director in
-        ⟦<Rules<B> as Judges>⟧.judges kit.now.rules.now seen.weights (sizes_of seen.plan) }
-    requires own { kit.now.rules.now.defs ≡ (leader workers.old.items).director.rules }
-    requires seed { kit.now.seed ≡ (leader workers.old.items).seed }
-    requires step { 1 ≤ step }
-    ensures len { vec_len workers.new ≡ vec_len workers.old }
-    ensures played { let makes = map (λ maker. made maker) kit.now.makers.now in
-        let candidate = candidate_in kit.now.seed kit.now.selectors.now makes step number (leader workers.old.items) in
-        OnOk result (AreAll (played (leader workers.old.items) candidate) workers.new.items) }
-    ensures back { let makes = map (λ maker. made maker) kit.now.makers.now in
-        let candidate = candidate_in kit.now.seed kit.now.selectors.now makes step number (leader workers.old.items) in
-        IfOk result (TakesBack (leader workers.old.items) candidate) }
-    ensures sizes { let seen = (leader workers.old.items).director in
-        OnOk result (sizes_of (leader workers.new.items).director.plan ≡ sizes_of seen.plan) }
-{
-    play_each(kit, workers.as_mut_slice(), step, number)
-}
-
-/// A worker makes a change, once the names are the first `count` again.
-fn change_one<B: Book>(
-    kit: &Kit<'_, B>,
-    worker: &mut Worker<B>,
-    names: &mut Names,
-    count: u32,
-    ready: &Ready,
+    one: &mut Follower<B>,
+    edit: &Edit,
 ) -> Result<(), Memory>
-    requires count { count ≤ length names.old }
-    requires judges { let seen = worker.old.director in
-        let plan = plan_after ready.now (take count names.old) seen.plan in
-        ⟦<Rules<B> as Judges>⟧.judges kit.now.rules.now (weights_after ready.now seen.weights) (sizes_of plan) }
-    requires own { kit.now.rules.now.defs ≡ worker.old.director.rules }
-    requires may { MayPerform ready.now worker.old.director.plan (length worker.old.director.weights) }
-    requires room { HasRoom ready.now (take count names.old) }
-    ensures changed { OnOk result (worker.new ≡ worker_after worker.old ready.now (take count names.old)) }
-    ensures names { OnOk result (names.new ≡ names_after ready.now (take count names.old)) }
-    ensures names_stay { OnErr result (names.new ≡ take count names.old) }
+    requires keeps { ⟦<Rules<B> as Kept>⟧.keeps kit.now.rules.now }
+    requires may { let rules = kit.now.rules.now in MayMake rules.defs rules.caps edit.now one.old }
+    ensures { OnOk result (one.new ≡ played one.old (Some edit.now)) }
 {
-    names.cut(count);
-    worker.change(kit, names, ready)
+    one.follow(alloc, kit, edit)
 }
 
-/// Each worker makes a change, from the same names on.
-fn change_each<B: Book>(
+/// Each follower follows its lead, which has made an edit.
+fn follow_each<B: Book>(
+    alloc: Global,
     kit: &Kit<'_, B>,
-    workers: &mut [Worker<B>],
-    names: &mut Names,
-    ready: &Ready,
+    others: &mut [Follower<B>],
+    edit: &Edit,
 ) -> Result<(), Memory>
-    requires some { 1 ≤ length workers.old }
-    requires alike { AreAll (leader workers.old) workers.old }
-    requires judges { let seen = (leader workers.old).director in
-        let plan = plan_after ready.now names.old seen.plan in
-        ⟦<Rules<B> as Judges>⟧.judges kit.now.rules.now (weights_after ready.now seen.weights) (sizes_of plan) }
-    requires own { kit.now.rules.now.defs ≡ (leader workers.old).director.rules }
-    requires may { let seen = (leader workers.old).director in
-        MayPerform ready.now seen.plan (length seen.weights) }
-    requires room { HasRoom ready.now names.old }
-    ensures changed { let after = worker_after (leader workers.old) ready.now names.old in
-        OnOk result (AreAll after workers.new) }
-    ensures names { OnOk result (names.new ≡ names_after ready.now names.old) }
-    ensures names_stay { OnErr result (names.new ≡ names.old) }
+    requires keeps { ⟦<Rules<B> as Kept>⟧.keeps kit.now.rules.now }
+    requires may { let rules = kit.now.rules.now in All (MayMake rules.defs rules.caps edit.now) others.old }
+    ensures { (worker : WorkerView) → AreAll worker others.old
+        → OnOk result (AreAll (played worker (Some edit.now)) others.new) }
 {
-    let count = names.count();
-    'changes: for place in 0..workers.len() {
-        change_one(kit, &mut workers[place], names, count, ready)?;
+    'others: for place in 0..others.len() {
+        follow_one(alloc, kit, &mut others[place], edit)?;
     }
     Ok(())
 }
 
 /// The same of a whole list.
-fn change_all<B: Book>(
+fn follow_all<B: Book>(
+    alloc: Global,
     kit: &Kit<'_, B>,
-    workers: &mut Vec<Worker<B>>,
+    others: &mut Vec<Follower<B>>,
+    edit: &Edit,
+) -> Result<(), Memory>
+    requires keeps { ⟦<Rules<B> as Kept>⟧.keeps kit.now.rules.now }
+    requires may { let rules = kit.now.rules.now in All (MayMake rules.defs rules.caps edit.now) others.old.items }
+    ensures len { vec_len others.new ≡ vec_len others.old }
+    ensures follow { (worker : WorkerView) → AreAll worker others.old.items
+        → OnOk result (AreAll (played worker (Some edit.now)) others.new.items) }
+{
+    follow_each(alloc, kit, others.as_mut_slice(), edit)
+}
+
+/// A follower goes on with a copy of a director.
+fn restart_one<B: Book>(
+    alloc: Global,
+    kit: &Kit<'_, B>,
+    one: &mut Follower<B>,
+    director: &Director<B>,
+    weights: &[u32],
+) -> Result<(), Memory>
+    requires rest { director.now ≡ at_rest kit.now.rules.now.defs weights.now director.now.plan }
+    requires judges { ⟦<Rules<B> as Judges>⟧.judges kit.now.rules.now weights.now (sizes_of director.now.plan) }
+    ensures { OnOk result (one.new ≡ with_director one.old director.now) }
+{
+    let twin = twin_of(alloc, kit, director, weights)?;
+    one.restart(twin);
+    Ok(())
+}
+
+/// Each follower goes on with a copy of a director.
+fn restart_each<B: Book>(
+    alloc: Global,
+    kit: &Kit<'_, B>,
+    others: &mut [Follower<B>],
+    director: &Director<B>,
+    weights: &[u32],
+) -> Result<(), Memory>
+    requires rest { director.now ≡ at_rest kit.now.rules.now.defs weights.now director.now.plan }
+    requires judges { ⟦<Rules<B> as Judges>⟧.judges kit.now.rules.now weights.now (sizes_of director.now.plan) }
+    ensures { (worker : WorkerView) → AreAll worker others.old
+        → OnOk result (AreAll (with_director worker director.now) others.new) }
+{
+    'others: for place in 0..others.len() {
+        restart_one(alloc, kit, &mut others[place], director, weights)?;
+    }
+    Ok(())
+}
+
+/// The same of a whole list.
+fn restart_all<B: Book>(
+    alloc: Global,
+    kit: &Kit<'_, B>,
+    others: &mut Vec<Follower<B>>,
+    director: &Director<B>,
+    weights: &[u32],
+) -> Result<(), Memory>
+    requires rest { director.now ≡ at_rest kit.now.rules.now.defs weights.now director.now.plan }
+    requires judges { ⟦<Rules<B> as Judges>⟧.judges kit.now.rules.now weights.now (sizes_of director.now.plan) }
+    ensures len { vec_len others.new ≡ vec_len others.old }
+    ensures restarted { (worker : WorkerView) → AreAll worker others.old.items
+        → OnOk result (AreAll (with_director worker director.now) others.new.items) }
+{
+    restart_each(alloc, kit, others.as_mut_slice(), director, weights)
+}
+
+/// The lead plays a step's candidate, where it is doable, and the others follow it. Gives the edit that takes it back.
+fn play_all<B: Book>(
+    alloc: Global,
+    kit: &Kit<'_, B>,
+    lead: &mut Worker<B>,
+    others: &mut Vec<Follower<B>>,
+    step: u32,
+    number: u32,
+) -> Result<Option<Edit>, Memory>
+    requires alike { AreAll lead.old others.old.items }
+    requires judges { let seen = lead.old.director in
+        ⟦<Rules<B> as Judges>⟧.judges kit.now.rules.now seen.weights (sizes_of seen.plan) }
+    requires own { kit.now.rules.now.defs ≡ lead.old.director.rules }
+    requires seed { kit.now.seed ≡ lead.old.seed }
+    requires step { 1 ≤ step }
+    ensures played { let makes = map (λ maker. made maker) kit.now.makers.now in
+        let candidate = candidate_in kit.now.seed kit.now.selectors.now makes step number lead.old in
+        IfOk result (λ back. HasPlayed lead.old lead.new candidate back) }
+    ensures takes_back { IfOk result (λ back. IfSome back (LeadsTo lead.old.director.plan lead.new.director.plan)) }
+    ensures sizes { sizes_of lead.new.director.plan ≡ sizes_of lead.old.director.plan }
+    ensures len { vec_len others.new ≡ vec_len others.old }
+    ensures alike { OnOk result (AreAll lead.new others.new.items) }
+{
+    let Some(edit) = lead.drawn(kit, step, number)? else {
+        return Ok(None);
+    };
+    let back = edit.inverse(lead.plan())?;
+    lead.make(kit, &edit)?;
+    follow_all(alloc, kit, others, &edit)?;
+    Ok(Some(back))
+}
+
+/// The lead makes a change, and the others go on with copies of its director: whether what they have yet to make could still
+/// be judged isn't known any more. At want of memory the names stay.
+fn change_all<B: Book>(
+    alloc: Global,
+    kit: &Kit<'_, B>,
+    lead: &mut Worker<B>,
+    others: &mut Vec<Follower<B>>,
     names: &mut Names,
     ready: &Ready,
 ) -> Result<(), Memory>
-    requires some { 1 ≤ vec_len workers.old }
-    requires alike { AreAll (leader workers.old.items) workers.old.items }
-    requires judges { let seen = (leader workers.old.items).director in
-        let plan = plan_after ready.now names.old seen.plan in
-        ⟦<Rules<B> as Judges>⟧.judges kit.now.rules.now (weights_after ready.now seen.weights) (sizes_of plan) }
-    requires own { kit.now.rules.now.defs ≡ (leader workers.old.items).director.rules }
-    requires may { let seen = (leader workers.old.items).director in
-        MayPerform ready.now seen.plan (length seen.weights) }
+    requires alike { AreAll lead.old others.old.items }
+    requires judges { let plan = plan_after ready.now names.old lead.old.director.plan in
+        let weights = weights_after ready.now lead.old.director.weights in
+        ⟦<Rules<B> as Judges>⟧.judges kit.now.rules.now weights (sizes_of plan) }
+    requires own { kit.now.rules.now.defs ≡ lead.old.director.rules }
+    requires may { MayPerform ready.now lead.old.director.plan (length lead.old.director.weights) }
     requires room { HasRoom ready.now names.old }
-    ensures len { vec_len workers.new ≡ vec_len workers.old }
-    ensures changed { let after = worker_after (leader workers.old.items) ready.now names.old in
-        OnOk result (AreAll after workers.new.items) }
+    ensures changed { OnOk result (lead.new ≡ worker_after lead.old ready.now names.old) }
     ensures names { OnOk result (names.new ≡ names_after ready.now names.old) }
     ensures names_stay { OnErr result (names.new ≡ names.old) }
+    ensures schema { (classes : List ClassDef) → IsOfSchema classes lead.old.director.plan
+        → OnOk result (IsOfSchema classes lead.new.director.plan) }
+    ensures len { vec_len others.new ≡ vec_len others.old }
+    ensures alike { OnOk result (AreAll lead.new others.new.items) }
 {
-    change_each(kit, workers.as_mut_slice(), names, ready)
+    let count = names.count();
+    lead.change(kit, names, ready)?;
+    let director = lead.director();
+    let restarted = restart_all(alloc, kit, others, director, director.weights());
+    if restarted.is_err() {
+        names.cut(count);
+    }
+    restarted
 }
 
 impl<B: Book> Team<B> {
@@ -266,7 +292,7 @@ impl<B: Book> Team<B> {
     ghost use Rattle.move_workers.specs.Judging.{HasPlayed, LeadsTo, candidate_in, found_in, worker_after, worker_of};
     ghost use Rattle.move_workers.specs.Teams.{team_of};
 
-    /// A team of so many workers, the first of which has this director, which is under these weights.
+    /// A team of so many workers, whose lead has this director, which is under these weights.
     pub fn new(
         alloc: Global,
         kit: &Kit<'_, B>,
@@ -279,34 +305,36 @@ impl<B: Book> Team<B> {
         requires judges { ⟦<Rules<B> as Judges>⟧.judges kit.now.rules.now weights.now (sizes_of director.plan) }
         ensures { IfOk result (λ team. team ≡ team_of (worker_of director kit.now.seed) workers) }
     {
-        let all = workers_on(alloc, kit, director, weights, workers)?;
+        let lead = lead_on(alloc, kit, director)?;
+        let others = followers_of(alloc, kit, lead.director(), weights, workers - 1)?;
         Ok(Team {
             alloc,
-            workers: all,
+            lead,
+            others,
             is_torn: false,
         })
     }
 
-    /// The director of the first worker.
+    /// The director of the lead.
     pub fn lead(&self) -> &Director<B>
         ensures lead { result.now ≡ self.now.worker.director }
         ensures rest { self.now.worker.director.base ≡ None }
     {
-        self.workers[0].director()
+        self.lead.director()
     }
 
     /// The plan of each worker.
     pub fn plan(&self) -> &Plan
         ensures { result.now ≡ self.now.worker.director.plan }
     {
-        self.workers[0].plan()
+        self.lead.plan()
     }
 
     /// What the plan of each worker is worth.
     pub fn score(&self) -> PlanScore
         ensures { result ≡ score_seen B.meaning self.now.worker.director }
     {
-        self.workers[0].score()
+        self.lead.score()
     }
 
     /// What is found of each of `count` candidates of a step from the number `first` on, in the order of their numbers,
@@ -339,7 +367,8 @@ impl<B: Book> Team<B> {
             self.alloc,
             kit,
             gate,
-            &mut self.workers,
+            self.lead.as_mut(),
+            &mut self.others,
             step,
             first,
             count,
@@ -366,7 +395,14 @@ impl<B: Book> Team<B> {
         ensures workers { self.new.workers ≡ self.old.workers }
     {
         self.is_torn = true;
-        let back = play_all(kit, &mut self.workers, step, number)?;
+        let back = play_all(
+            self.alloc,
+            kit,
+            self.lead.as_mut(),
+            &mut self.others,
+            step,
+            number,
+        )?;
         self.is_torn = false;
         Ok(back)
     }
@@ -396,21 +432,25 @@ impl<B: Book> Team<B> {
         ensures workers { self.new.workers ≡ self.old.workers }
     {
         self.is_torn = true;
-        change_all(kit, &mut self.workers, names, ready)?;
+        change_all(
+            self.alloc,
+            kit,
+            self.lead.as_mut(),
+            &mut self.others,
+            names,
+            ready,
+        )?;
         self.is_torn = false;
         Ok(())
     }
 
-    /// The director of one of the workers, which are all alike; the others are no more.
+    /// The director of the lead; the others are no more.
     pub fn into_director(self) -> Director<B>
         requires whole { self.is_torn ≡ false }
         ensures director { result ≡ self.worker.director }
         ensures rest { result.base ≡ None }
     {
-        let Team { mut workers, .. } = self;
-        let Some(worker) = workers.pop() else {
-            unreachable!()
-        };
-        worker.into_director()
+        let Team { lead, .. } = self;
+        Box::into_inner(lead).into_director()
     }
 }

@@ -12,6 +12,7 @@ use plan_search::Found;
 use score_director::Director;
 use std::alloc::Global;
 use std::marker::Model;
+use std::mem;
 
 /// A worker: judges candidates of a search's steps on the plan of its own director, and plays the winners. Candidates are
 /// drawn into one edit, which is refilled.
@@ -35,13 +36,14 @@ impl<B: Book> Model for Worker<B> {
 }
 
 impl<B: Book> Worker<B> {
-    ghost use Rattle.std.specs.Prelude.{◌≡◌, ◌≤◌, List, None, IfOk, IfSome, OnErr, OnOk, length, map};
+    ghost use Rattle.std.specs.Prelude.{◌≡◌, ◌≤◌, IsTrue, List, None, IfOk, IfSome, OnErr, OnOk, Some, length, map};
     ghost use Rattle.plan_facts.specs.declared.record.ClassDef.{ClassDef};
     ghost use Rattle.plan_changes.specs.Fits.{IsOfSchema};
     ghost use Rattle.plan_changes.specs.Performed.{HasRoom, MayPerform, names_after, plan_after, weights_after};
+    ghost use Rattle.plan_moves.specs.Edits.{is_legal};
     ghost use Rattle.plan_rules.specs.Range.{sizes_of};
     ghost use Rattle.score_director.specs.View.{score_seen};
-    ghost use Rattle.move_workers.specs.Judging.{HasPlayed, LeadsTo, candidate_in, found_by, worker_after};
+    ghost use Rattle.move_workers.specs.Judging.{HasPlayed, LeadsTo, candidate_in, found_by, played, with_director, worker_after};
 
     /// A worker on a director's plan, whose draws have the kit's seed.
     pub fn new(alloc: Global, kit: &Kit<'_, B>, director: Director<B>) -> Result<Worker<B>, Memory>
@@ -114,6 +116,30 @@ impl<B: Book> Worker<B> {
         Ok(Some(Found { score, touched }))
     }
 
+    /// A step's candidate under a number, where it is doable.
+    pub fn drawn(
+        &mut self,
+        kit: &Kit<'_, B>,
+        step: u32,
+        number: u32,
+    ) -> Result<Option<Edit>, Memory>
+        requires seed { kit.now.seed ≡ self.old.seed }
+        requires step { 1 ≤ step }
+        ensures candidate { let makes = map (λ maker. made maker) kit.now.makers.now in
+            let candidate = candidate_in kit.now.seed kit.now.selectors.now makes step number self.old in
+            IfOk result (λ edit. edit ≡ candidate) }
+        ensures legal { IfOk result (λ edit. IfSome edit (λ sets. IsTrue (is_legal self.old.director.plan sets))) }
+        ensures same { self.new ≡ self.old }
+    {
+        let plan = self.director.plan();
+        let drawn = draw(&mut self.hand, kit, plan, step, number)?;
+        if !drawn || !self.hand.edit.doable(kit.schema, plan) {
+            return Ok(None);
+        }
+        let next = Edit::new(self.hand.alloc);
+        Ok(Some(mem::replace(&mut self.hand.edit, next)))
+    }
+
     /// Plays a step's candidate under a number, where it is doable: the plan is that after it, and the answer is the edit
     /// that takes it back. Else the answer is none, and nothing changes. At want of memory all is as before.
     pub fn play(&mut self, kit: &Kit<'_, B>, step: u32, number: u32) -> Result<Option<Edit>, Memory>
@@ -130,15 +156,27 @@ impl<B: Book> Worker<B> {
         ensures err { OnErr result (self.new ≡ self.old) }
         ensures sizes { sizes_of self.new.director.plan ≡ sizes_of self.old.director.plan }
     {
-        let plan = self.director.plan();
-        let drawn = draw(&mut self.hand, kit, plan, step, number)?;
-        if !drawn || !self.hand.edit.doable(kit.schema, plan) {
+        let Some(edit) = self.drawn(kit, step, number)? else {
             return Ok(None);
-        }
-        let back = self.hand.edit.inverse(plan)?;
-        keep_alone(&mut self.director, kit.rules, &self.hand.edit)?;
-        self.hand.pool.forget_pillars();
+        };
+        let back = edit.inverse(self.director.plan())?;
+        self.make(kit, &edit)?;
         Ok(Some(back))
+    }
+
+    /// Makes an edit that is legal. At want of memory all is as before.
+    pub fn make(&mut self, kit: &Kit<'_, B>, edit: &Edit) -> Result<(), Memory>
+        requires judges { let seen = self.old.director in
+            ⟦<Rules<B> as Judges>⟧.judges kit.now.rules.now seen.weights (sizes_of seen.plan) }
+        requires own { kit.now.rules.now.defs ≡ self.old.director.rules }
+        requires legal { IsTrue (is_legal self.old.director.plan edit.now) }
+        ensures ok { OnOk result (self.new ≡ played self.old (Some edit.now)) }
+        ensures sizes { sizes_of self.new.director.plan ≡ sizes_of self.old.director.plan }
+        ensures err { OnErr result (self.new ≡ self.old) }
+    {
+        keep_alone(&mut self.director, kit.rules, edit)?;
+        self.hand.pool.forget_pillars();
+        Ok(())
     }
 
     /// Makes a change of the plan, the names or the weights, which may be made; rows and score must stay in range. At want
@@ -165,6 +203,15 @@ impl<B: Book> Worker<B> {
         change_alone(&mut self.director, kit.rules, names, ready)?;
         self.hand.is_stale = true;
         Ok(())
+    }
+
+    /// Goes on with another director.
+    pub fn restart(&mut self, director: Director<B>)
+        requires { director.base ≡ None }
+        ensures { self.new ≡ with_director self.old director }
+    {
+        self.hand.is_stale = true;
+        self.director = director;
     }
 
     /// The worker's director, in its place.

@@ -6,63 +6,69 @@ ghost use Rattle.side_by_side.specs.Places.{AcceptsFrom, ChangesFrom};
 
 use std::thread::{Threads, join_mut};
 
-/// Calls `f(i, &mut s[i])` at each place, each in a thread of its own where one can be made; the last in the thread that calls,
+/// Calls `f(i, &mut s[i])` at each place, each in a thread of its own where one can be made, and `own` in the thread that calls,
 /// which begins all the others. The stack grows with the number of places.
-pub fn each_beside<R: Threads + Sync, T: Send, F: Fn(usize, &mut T) + Sync>(
+pub fn each_beside<R: Threads + Sync, T: Send, F: Fn(usize, &mut T) + Sync, G: FnMut()>(
     rt: &R,
     s: &mut [T],
     f: &F,
+    own: &mut G,
 )
-    requires { AcceptsEach F.Fn f.now s.old }
-    ensures { ChangesEach F.Fn f.now s.old s.new }
+    requires each { AcceptsEach F.Fn f.now s.old }
+    requires own { G.pre own.old }
+    ensures each { ChangesEach F.Fn f.now s.old s.new }
+    ensures own { G.step own.old result own.new }
 {
-    each_from(rt, f, 0, s);
+    each_from(rt, f, 0, s, own);
 }
 
 /// The same of a slice that stands from this place on.
 #[cycle(beside)]
-fn each_from<R: Threads + Sync, T: Send, F: Fn(usize, &mut T) + Sync>(
+fn each_from<R: Threads + Sync, T: Send, F: Fn(usize, &mut T) + Sync, G: FnMut()>(
     rt: &R,
     f: &F,
     place: usize,
     s: &mut [T],
+    own: &mut G,
 )
-    requires { AcceptsFrom F.Fn f.now place s.old }
-    ensures { ChangesFrom F.Fn f.now place s.old s.new }
+    requires each { AcceptsFrom F.Fn f.now place s.old }
+    requires own { G.pre own.old }
+    ensures each { ChangesFrom F.Fn f.now place s.old s.new }
+    ensures own { G.step own.old result own.new }
 {
-    let Some((first, rest)) = s.split_first_mut() else {
-        return;
-    };
-    if rest.is_empty() {
-        call_at(f, place, first);
-    } else {
-        first_and_rest(rt, f, place, first, place + 1, rest);
+    match s.split_first_mut() {
+        Some((first, rest)) => first_and_rest(rt, f, place, first, place + 1, rest, own),
+        None => own(),
     }
 }
 
 /// The first in a thread of its own, and the rest beside it.
 #[cycle(beside)]
-fn first_and_rest<R: Threads + Sync, T: Send, F: Fn(usize, &mut T) + Sync>(
+fn first_and_rest<R: Threads + Sync, T: Send, F: Fn(usize, &mut T) + Sync, G: FnMut()>(
     rt: &R,
     f: &F,
     place: usize,
     first: &mut T,
     next: usize,
     rest: &mut [T],
+    own: &mut G,
 )
     requires first { AcceptsAt F.Fn f.now place first.old }
     requires rest { AcceptsFrom F.Fn f.now next rest.old }
+    requires own { G.pre own.old }
     ensures first { ChangesAt F.Fn f.now place first.old first.new }
     ensures rest { ChangesFrom F.Fn f.now next rest.old rest.new }
+    ensures own { G.step own.old result own.new }
 {
     let mut one = ||
         requires { AcceptsAt F.Fn f.now place first.now }
         ensures { ChangesAt F.Fn f.entry.now place first.entry.now first.exit.now }
     { call_at(f, place, first) };
     let mut others = ||
-        requires { IsSync R.row × IsSync F.row × IsSend T.row × AcceptsFrom F.Fn f.now next rest.now }
-        ensures { ChangesFrom F.Fn f.entry.now next rest.entry.now rest.exit.now }
-    { each_from(rt, f, next, rest) };
+        requires { IsSync R.row × IsSync F.row × IsSend T.row × AcceptsFrom F.Fn f.now next rest.now × G.pre own.now }
+        ensures rest { ChangesFrom F.Fn f.entry.now next rest.entry.now rest.exit.now }
+        ensures own { G.step own.entry.now result own.exit.now }
+    { each_from(rt, f, next, rest, own) };
     join_mut(rt, &mut one, &mut others);
 }
 

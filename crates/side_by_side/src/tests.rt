@@ -9,19 +9,22 @@ const BEFORE: [usize; 7] = [10, 20, 30, 40, 50, 60, 70];
 
 const AFTER: [usize; 7] = [10, 21, 32, 43, 54, 65, 76];
 
-/// Whether each of so many first numbers gets its place added, and the others stay.
+/// Whether each of so many first numbers gets its place added, and the others stay, while the thread that calls does what is
+/// its own once.
 fn adds_places<R: Threads + Sync>(rt: &R, count: usize) -> bool
     requires { count ≤ 7 }
 {
     let mut numbers = BEFORE;
+    let mut calls = 0_u32;
     each_beside(
         rt,
         &mut numbers[..count],
         &|place: usize, number: &mut usize| {
             *number = number.wrapping_add(place);
         },
+        &mut || calls = calls.wrapping_add(1),
     );
-    numbers[..count] == AFTER[..count] && numbers[count..] == BEFORE[count..]
+    calls == 1 && numbers[..count] == AFTER[..count] && numbers[count..] == BEFORE[count..]
 }
 
 #[test]

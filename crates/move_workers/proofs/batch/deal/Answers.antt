@@ -1,4 +1,4 @@
-use Rattle.std.proofs.Common.{rules, ◌≡◌, [], ◌∷◌, length, length-append, refl, ap, arith}
+use Rattle.std.proofs.Common.{rules, ◌≡◌, [], ◌∷◌, length, length-append, ap, arith}
 use Rattle.std.proofs.lemmas.List.Elements.{All-push}
 use Rattle.claim_board.specs.Boards.{fresh_pass}
 use Rattle.move_workers.specs.Jobs.{IsIdle}
@@ -19,11 +19,7 @@ passes-preserved g c =
       workers_room = search rules;
       alike = (λ w all. All-front (λ x. x ≡ w) _ _ (rw workers at (inv.alike w all)));
       boards = (λ b all. All-front (λ p. p ≡ fresh_pass b) _ _ (rw passes at (inv.boards b all)));
-      idle = (λ b w ps ws.
-          rw c.push_reserved.ensures.items (All-push (IsIdle b w) _ _ (inv.idle b w ps ws) (record {
-            worker_is = All-last (λ x. x ≡ w) _ _ (rw workers at (inv.alike w ws));
-            pass_is = All-last (λ p. p ≡ fresh_pass b) _ _ (rw passes at (inv.boards b ps));
-            nothing = search rules;
-            whole = refl;
-          })));
+      dealt = (λ w all. rw c.push_reserved.ensures.items (All-push (λ job. job.worker ≡ w) _ _ (inv.dealt w all) (All-last (λ x. x ≡ w) _ _ (rw workers at (inv.alike w all)))));
+      idle = (λ b all. rw c.push_reserved.ensures.items (All-push (λ job. IsIdle b job.share) _ _ (inv.idle b all)
+          (c.share_of-share.ensures b (All-last (λ p. p ≡ fresh_pass b) _ _ (rw passes at (inv.boards b all))))));
     }

@@ -13,8 +13,8 @@ invariant-passes g l = record {
   workers_room : vec_capacity l.workers ≡ vec_capacity l.fn.workers;
   alike : (worker : WorkerView) → AreAll worker l.fn.workers.items → AreAll worker l.workers.items;
   boards : (board : BoardView) → AreAll (fresh_pass board) l.fn.passes → AreAll (fresh_pass board) l.passes;
-  idle : (board : BoardView) (worker : WorkerView) → AreAll (fresh_pass board) l.fn.passes → AreAll worker l.fn.workers.items
-      → All (IsIdle board worker) l.jobs.items;
+  dealt : (worker : WorkerView) → AreAll worker l.fn.workers.items → All (λ job. job.worker ≡ worker) l.jobs.items;
+  idle : (board : BoardView) → AreAll (fresh_pass board) l.fn.passes → All (λ job. IsIdle board job.share) l.jobs.items;
 }
 
 abbrev pub decreases-passes : goal.decreases-passes

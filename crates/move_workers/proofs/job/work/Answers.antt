@@ -20,5 +20,5 @@ draws-preserved g c =
       whole = search rules;
       below = rw (items, c.reserve.ensures.items) (All-push (λ v. v.place < c.args.board.now.limit) _ _ inv.below (search rules));
       verdicts = rw (items, c.reserve.ensures.items, c.in-Some.ensures.drawn)
-          (verdict_next (found_from (find c.args.job.now.worker) c.args.first) c.draws.job.verdicts.items c.draws.job.pass.draws place c.in-Ok.found inv.verdicts answer);
+          (verdict_next (found_from (find c.args.worker.now) c.args.first) c.draws.share.verdicts.items c.draws.share.pass.draws place c.in-Ok.found inv.verdicts answer);
     }

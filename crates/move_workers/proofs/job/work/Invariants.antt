@@ -8,14 +8,14 @@ use Rattle.move_workers.proofs.job.work.Given as goal
 abbrev pub invariant-draws : goal.invariant-draws
 invariant-draws g l =
     let makes = map (λ m. (goal.MoveMaker-dyn g (m.vtable, m.value)).made m.value) l.kit.makers.now in
-    let found = found_in g.B.Book.meaning l.kit.seed l.kit.selectors.now makes l.step l.fn.job.worker in
+    let found = found_in g.B.Book.meaning l.kit.seed l.kit.selectors.now makes l.step l.fn.worker in
     record {
-      worker : l.job.worker ≡ l.fn.job.worker;
-      board : l.job.pass.board ≡ l.board;
-      whole : l.job.is_short ≡ false;
-      below : AreBelow l.board.limit l.job.verdicts.items;
-      verdicts : l.job.verdicts.items ≡ map (verdict_by (found_from found l.first)) l.job.pass.draws;
+      worker : l.worker ≡ l.fn.worker;
+      board : l.share.pass.board ≡ l.board;
+      whole : l.share.is_short ≡ false;
+      below : AreBelow l.board.limit l.share.verdicts.items;
+      verdicts : l.share.verdicts.items ≡ map (verdict_by (found_from found l.first)) l.share.pass.draws;
     }
 
 abbrev pub decreases-draws : goal.decreases-draws
-decreases-draws g l = l.board.limit - next_after l.job.pass.draws
+decreases-draws g l = l.board.limit - next_after l.share.pass.draws

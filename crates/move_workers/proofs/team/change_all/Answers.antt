@@ -1,17 +1,20 @@
-use Rattle.std.proofs.Common.{rules, ◌≡◌, List, length, drop, sym, subst}
-use Rattle.std.proofs.lemmas.List.{take_at}
-use Rattle.std.specs.Result.{OnOk}
-use Rattle.move_workers.specs.Judging.{WorkerView, worker_after}
-use Rattle.move_workers.specs.Teams.{AreAll, leader}
+use Rattle.std.proofs.Common.{◌∙◌, ℕ, List, length, take, ap, arith}
+use Rattle.plan_changes.specs.Performed.{names_after, texts_of}
+use Rattle.plan_changes.proofs.Numbered.{numbered_front, numbered_le}
+use Rattle.plan_ports.proofs.Edges.{OnErr-all}
 use Rattle.move_workers.proofs.team.change_all.Goals as goal
 
-pub returns-clause-changed : goal.returns-clause-changed
-returns-clause-changed g c =
-    let old = c.as_mut_slice.result.now in
-    let new = c.change_each.new.workers in
-    let same : length new ≡ length old = search rules in
-    let n : c.args.workers.now.len ≡ length new = search rules in
-    let back = take_at new (drop (length new) c.args.workers.now.items) c.args.workers.now.len (sym n) in
-    let there = subst (λ (l : List WorkerView). OnOk c.change_each.result (AreAll (worker_after (leader l) c.args.ready.now c.args.names.now) new)) c.as_mut_slice.ensures.value
-    c.change_each.ensures.changed in
-    rw back there
+pub cut-requires : goal.cut-requires
+cut-requires g c =
+    let long = numbered_le c.args.names.now (texts_of c.args.ready.now) in
+    let e = ap (λ (ns : List (List ℕ)). length ns) c.in_ok-change.ensures.names in
+    let count = c.count-count.ensures.count in
+    omega arith
+
+pub returns-then-is_err-clause-names_stay : goal.returns-then-is_err-clause-names_stay
+returns-then-is_err-clause-names_stay g c =
+    let names = c.args.names.now in
+    let ready = c.args.ready.now in
+    let same = c.cut.ensures ∙ ap (take c.count-count.result) c.in_ok-change.ensures.names
+    ∙ ap (λ (n : ℕ). take n (names_after ready names)) c.count-count.ensures.count ∙ numbered_front names (texts_of ready) in
+    OnErr-all _ same c.restart_all-restarted.result

@@ -1,4 +1,5 @@
-use Rattle.std.proofs.Common.{◌≡◌, ◌-◌, Result, Ok, Err, IfOk, map, subst}
+use Rattle.std.proofs.Common.{◌≡◌, ◌∙◌, ◌-◌, Result, Ok, Err, IfOk, OnOk, ap, map, subst}
+use Rattle.change_inbox.specs.Entries.{shuts_in}
 use Rattle.live_posts.specs.Cuts.{taken_by}
 use Rattle.live_posts.proofs.Looking.{met_all}
 use Rattle.plan_json.specs.Seen.{domain_view}
@@ -16,6 +17,10 @@ use Rattle.plan_session.proofs.driving.run_both.Goals as goal
 -- what is said of a value where a call succeeded with it
 of_ok : {A E : Type 0} (P : A → Type 0) (r : Result A E) (x : A) → r ≡ Ok x → IfOk r P → P x
 of_ok {A = A} {E = E} P r x is = subst (λ (one : Result A E). IfOk one P) is
+
+-- what is said where a call succeeded, and it did
+met_of_ok : {A E : Type 0} (P : Type 0) (r : Result A E) (x : A) → r ≡ Ok x → OnOk r P → P
+met_of_ok {A = A} {E = E} P r x is = subst (λ (one : Result A E). OnOk one P) is
 
 pub returns-in-Err-clause-ended : goal.returns-in-Err-clause-ended
 returns-in-Err-clause-ended g c = λ posed start by from named.
@@ -85,3 +90,8 @@ pub returns-clause-all : goal.returns-clause-all
 returns-clause-all g c =
     on_ok c.end_live-ended.result _
     (met_all c.halves-fed.new.feeder c.meet.new.other c.meet.new.self c.end_live-ended.new.cutter c.meet.ensures.other c.meet.ensures.met c.end_live-ended.ensures.all)
+
+pub returns-clause-unshut : goal.returns-clause-unshut
+returns-clause-unshut g c =
+    let led = met_of_ok _ c.halves-fed.result.1 c.in-Ok.running c.in-Ok.is c.halves-fed.ensures.unshut in
+    on_ok c.end_live-ended.result _ (c.end_live-ended.ensures.shuts ∙ ap shuts_in c.meet.ensures.own ∙ led)

@@ -124,6 +124,9 @@ fn make(
     }
 }
 
+/// How many candidates are judged after all turns.
+const BATCH: u32 = 16;
+
 /// Whether after a turn the plan is worth what is wanted, and there are as many names.
 fn is_turn(turn: Turn, score: PlanScore, names: u32) -> bool {
     let Turn(_, _, _, _, hard, count) = turn;
@@ -204,7 +207,40 @@ fn names_of(alloc: Global) -> Result<Names, Fail> {
     Ok(names)
 }
 
-/// Whether, after all turns, the shifts have these nurses, and what is found of a candidate is as wanted.
+/// Whether the same was found of a candidate.
+fn is_same(one: Option<&Option<Found>>, other: Option<&Option<Found>>) -> bool {
+    match (one, other) {
+        (Some(Some(one)), Some(Some(other))) => {
+            one.score == other.score && one.touched.as_slice() == other.touched.as_slice()
+        }
+        (Some(None), Some(None)) => true,
+        _ => false,
+    }
+}
+
+/// Whether the lead of a team, to whom a batch of one falls, finds of each of these candidates what was found of it.
+fn lead_agrees<T: Threads + Sync>(
+    rt: &T,
+    team: &mut Team<Silent>,
+    kit: &Kit<'_, Silent>,
+    all: &[Option<Found>],
+) -> Result<bool, Memory>
+    requires whole { team.old.is_torn ≡ false }
+    requires judges { let seen = team.old.worker.director in
+        ⟦<Rules<Silent> as Judges>⟧.judges kit.now.rules.now seen.weights (sizes_of seen.plan) }
+    requires own { kit.now.rules.now.defs ≡ team.old.worker.director.rules }
+    requires seed { kit.now.seed ≡ team.old.worker.seed }
+{
+    'alone: for number in 0..BATCH {
+        let one = team.judged(rt, kit, &NoGate, 1, number, 1)?;
+        if !is_same(one.first(), all.get(number as usize)) {
+            return Ok(false);
+        }
+    }
+    Ok(true)
+}
+
+/// Whether, after all turns, the shifts have these nurses, and what all workers find of the first candidates is as wanted.
 fn ends<T: Threads + Sync>(
     rt: &T,
     team: &mut Team<Silent>,
@@ -217,8 +253,9 @@ fn ends<T: Threads + Sync>(
     requires seed { kit.now.seed ≡ team.old.worker.seed }
 {
     let placed = has_nurses(team.plan(), &NURSES);
-    let all = team.judged(rt, kit, &NoGate, 1, 0, 1)?;
-    Ok(placed && is_last(&all))
+    let all = team.judged(rt, kit, &NoGate, 1, 0, BATCH)?;
+    let agreed = lead_agrees(rt, team, kit, &all)?;
+    Ok(placed && is_last(&all) && agreed)
 }
 
 /// Whether a team takes all turns as is wanted.

@@ -1,0 +1,135 @@
+ghost use Rattle.std.specs.Prelude.{◌≡◌, IfOk, IfSome, IsTrue, None, OnErr, OnOk};
+ghost use Rattle.plan_moves.specs.Edits.{is_legal};
+ghost use Rattle.plan_rules.specs.Range.{sizes_of};
+ghost use Rattle.move_workers.specs.Judging.{played};
+
+use crate::job::{Share, work};
+use crate::kit::Kit;
+use crate::worker::Worker;
+use claim_board::Board;
+use plan_facts::Memory;
+use plan_moves::{Edit, MoveMaker};
+use plan_ports::Gate;
+use plan_rules::{Book, Judges, Rules};
+use score_director::Director;
+use std::alloc::Global;
+use std::marker::Model;
+
+/// A worker that follows the lead of its team. An edit that the lead has made it makes itself when it works next, so that all
+/// followers make it at once. What contracts see of it is the worker after that edit.
+#[derive(Drop)]
+pub struct Follower<B: Book> {
+    worker: Worker<B>,
+    late: Option<Edit>,
+}
+
+impl<B: Book> Model for Follower<B> {
+    ghost use Rattle.std.specs.Prelude.{IfSome, IsTrue};
+    ghost use Rattle.plan_moves.specs.Edits.{is_legal};
+    ghost use Rattle.move_workers.specs.Judging.{WorkerView, played};
+
+    ghost Value = { WorkerView };
+
+    ghost view = { λ f. played f.worker f.late };
+
+    ghost invariant = { λ f. IfSome f.late (λ sets. IsTrue (is_legal f.worker.director.plan sets)) };
+}
+
+/// A copy of an edit.
+fn copy_of(alloc: Global, edit: &Edit) -> Result<Edit, Memory>
+    ensures { IfOk result (λ copy. copy ≡ edit.now) }
+{
+    let mut copy = Edit::new(alloc);
+    copy.fill(edit.sets())?;
+    Ok(copy)
+}
+
+/// A worker makes the edit that it has yet to make, if there is one. At want of memory all is as before.
+fn catch_up<B: Book>(
+    kit: &Kit<'_, B>,
+    worker: &mut Worker<B>,
+    late: &mut Option<Edit>,
+) -> Result<(), Memory>
+    requires judges { let seen = worker.old.director in
+        ⟦<Rules<B> as Judges>⟧.judges kit.now.rules.now seen.weights (sizes_of seen.plan) }
+    requires own { kit.now.rules.now.defs ≡ worker.old.director.rules }
+    requires legal { IfSome late.old (λ sets. IsTrue (is_legal worker.old.director.plan sets)) }
+    ensures made { OnOk result (worker.new ≡ played worker.old late.old) }
+    ensures none { OnOk result (late.new ≡ None) }
+    ensures err { OnErr result (worker.new ≡ worker.old) }
+    ensures stays { OnErr result (late.new ≡ late.old) }
+{
+    if let Some(edit) = late {
+        worker.make(kit, edit)?;
+    }
+    *late = None;
+    Ok(())
+}
+
+impl<B: Book> Follower<B> {
+    ghost use Rattle.std.specs.Prelude.{◌≡◌, ◌+◌, ◌^◌, ◌<◌, ◌≤◌, IfOk, IsTrue, None, OnErr, OnOk, Some, map};
+    ghost use Rattle.plan_moves.specs.Edits.{is_legal};
+    ghost use Rattle.plan_rules.specs.Range.{sizes_of};
+    ghost use Rattle.move_workers.specs.Jobs.{IsIdle, IsWorked, found_from};
+    ghost use Rattle.move_workers.specs.Judging.{found_in, played, with_director};
+
+    /// A follower with nothing to make.
+    pub fn new(worker: Worker<B>) -> Follower<B>
+        ensures { result ≡ worker }
+    {
+        Follower { worker, late: None }
+    }
+
+    /// Judges the candidates of its share of a batch. It stays as it was.
+    pub fn work<G: Gate>(
+        &mut self,
+        share: &mut Share,
+        kit: &Kit<'_, B>,
+        gate: &G,
+        board: &Board,
+        step: u32,
+        first: u32,
+    )
+        requires judges { let seen = self.old.director in
+            ⟦<Rules<B> as Judges>⟧.judges kit.now.rules.now seen.weights (sizes_of seen.plan) }
+        requires own { kit.now.rules.now.defs ≡ self.old.director.rules }
+        requires seed { kit.now.seed ≡ self.old.seed }
+        requires step { 1 ≤ step }
+        requires fits { first + board.now.limit < 2 ^ 32 }
+        requires idle { IsIdle board.now share.old }
+        ensures worked { let makes = map (λ maker. made maker) kit.now.makers.now in
+            let found = found_in B.meaning kit.now.seed kit.now.selectors.now makes step self.old in
+            IsWorked board.now (found_from found first) share.new }
+        ensures same { self.new ≡ self.old }
+    {
+        if catch_up(kit, &mut self.worker, &mut self.late).is_err() {
+            share.is_short = true;
+            return;
+        }
+        work(&mut self.worker, share, kit, gate, board, step, first);
+    }
+
+    /// Follows its lead, which has made an edit that was legal. At want of memory all is as before.
+    pub fn follow(&mut self, alloc: Global, kit: &Kit<'_, B>, edit: &Edit) -> Result<(), Memory>
+        requires judges { let seen = self.old.director in
+            ⟦<Rules<B> as Judges>⟧.judges kit.now.rules.now seen.weights (sizes_of seen.plan) }
+        requires own { kit.now.rules.now.defs ≡ self.old.director.rules }
+        requires legal { IsTrue (is_legal self.old.director.plan edit.now) }
+        ensures ok { OnOk result (self.new ≡ played self.old (Some edit.now)) }
+        ensures err { OnErr result (self.new ≡ self.old) }
+    {
+        let next = copy_of(alloc, edit)?;
+        catch_up(kit, &mut self.worker, &mut self.late)?;
+        self.late = Some(next);
+        Ok(())
+    }
+
+    /// Goes on with another director, on whose plan it has nothing to make.
+    pub fn restart(&mut self, director: Director<B>)
+        requires { director.base ≡ None }
+        ensures { self.new ≡ with_director self.old director }
+    {
+        self.late = None;
+        self.worker.restart(director);
+    }
+}

@@ -1,1 +1,2 @@
 pub mod FreeLaws
+pub mod Handed

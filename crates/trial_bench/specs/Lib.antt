@@ -1,1 +1,4 @@
 pub mod Free
+pub mod Kept
+pub mod School
+pub mod Stands

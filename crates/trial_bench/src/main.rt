@@ -1,11 +1,17 @@
-//! Drives a store and an index at two sizes, and an index beside a plain map of lists, and prints counts of what they
-//! hold; with the word `times` also how long the calls took, to standard error, after a million trials.
+//! Drives a store and an index at two sizes, an index beside a plain map of lists, and single nodes of a network, and
+//! prints counts of what they hold and find; with the word `times` also how long the calls took, to standard error,
+//! after a million trials.
 #![tactic(auto)]
 
 mod beside;
 mod clocked;
 mod index;
+mod kept;
+mod look;
+mod nodes;
 mod plain;
+mod school;
+mod school_rules;
 mod store;
 
 use std::{env, io};
@@ -23,5 +29,5 @@ fn main(rt: HostRuntime) -> io::Result<()> {
         index::drive(&rt, rt.alloc(), times, size, rounds)?;
         beside::drive(&rt, rt.alloc(), times, size)?;
     }
-    Ok(())
+    nodes::drive(&rt, rt.alloc(), times)
 }

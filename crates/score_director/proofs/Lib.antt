@@ -21,7 +21,8 @@ pub mod Means
 pub mod NetLaws
 pub mod NodeLaws
 pub mod Ordered
-pub mod Readied
+mod OwnIds
+mod Readied
 pub mod Reweighed
 pub mod RuleLaws
 pub mod RuleSteps

@@ -15,13 +15,15 @@ use Rattle.stream_heads.specs.declared.cells.Cell.TheVariants as cell
 use Rattle.stream_heads.specs.Exact.{IsExact}
 use Rattle.stream_heads.specs.Meant.{Extends, Rows, all_live, is_live, row_at}
 use Rattle.stream_end.specs.Weights.{weight_sum}
+use Rattle.stream_join.specs.Tally.{HaveOwnIds}
 use Rattle.plan_rules.proofs.Sums.{sum_by-map}
 use Rattle.head_changes.specs.declared.changes.ClassChange.{ClassChange}
 use Rattle.head_changes.specs.Changes.{came, gone_of, led_by, went}
 use Rattle.head_changes.specs.Gathered.{TakersLead}
 use Rattle.head_changes.specs.Takers.{AreTakers, Takers}
 use Rattle.score_director.specs.declared.rule.RuleNet.{RuleNet}
-use Rattle.score_director.specs.Chain.{stations}
+use Rattle.score_director.specs.declared.node.NetNode.{NetNode}
+use Rattle.score_director.specs.Chain.{BeginWithOwnIds, stations}
 use Rattle.score_director.specs.Rule.{IsNetOf, RuleStep, head_change, head_nulls}
 use Rattle.score_director.specs.Stations.{AreFew, AreOnTheWay, Station, cells_behind, head_cells, rule_cells}
 use Rattle.score_director.specs.Turning.{FactsLead, HoldsTakers, IsRuleOf, RulesForesee, RulesTurn}
@@ -29,6 +31,7 @@ use Rattle.score_director.proofs.Begins.{begins_with_both}
 use Rattle.score_director.proofs.Chains.{rule_stays}
 use Rattle.score_director.proofs.Fews.{rules_are_few}
 use Rattle.score_director.proofs.Means.{cells_mean_rows}
+use Rattle.score_director.proofs.OwnIds.{own_ids}
 use Rattle.score_director.proofs.Ways.{rules_are_on_the_way}
 
 and_true : (a b : Bool) → a ≡ true → b ≡ true → (a && b) ≡ true
@@ -83,6 +86,11 @@ head_leads changes other def net takers later is within lead =
     (subst (λ (rows : List (List Cell)). E (takers net.class net.nulls) rows change.come.items (later net.class net.nulls)) gone
     (subst (λ (rows : List (List Cell)). E (takers net.class net.nulls) (gone_of changes net.class net.nulls) rows (later net.class net.nulls)) come (lead net.class net.nulls))))
 
+-- rows with ids of their own, whatever begins with them
+pub begins_with_own_ids : (heads : Rows) (rows : List (List Cell)) (nodes : List NetNode) → HaveOwnIds heads rows → BeginWithOwnIds heads rows nodes
+begins_with_own_ids heads rows [] own = tt
+begins_with_own_ids heads rows (n ∷ ns) own = λ up. own
+
 module _ (m : Meaning) (heads more : Rows) (changes : List ClassChange) (takers : Takers) (facts later : Facts) (sizes : List ℕ)
     (def : RuleDef) (net : RuleNet) (other : ClassChange) (lead : FactsLead heads more changes takers facts later sizes) (is : IsRuleOf changes sizes def net) where
   abbrev L : Takers
@@ -90,6 +98,9 @@ module _ (m : Meaning) (heads more : Rows) (changes : List ClassChange) (takers 
 
   pub head_lives : all_live heads (head_cells takers def.head) ≡ true
   head_lives = ap (all_live heads) (head_is takers def.head) ∙ (lead.hold.takers_are (head_class def.head) (head_nulls def.head)).live
+
+  pub later_own : HaveOwnIds more (head_cells L def.head)
+  later_own = subst (HaveOwnIds more) (sym (head_is L def.head)) (own_ids more L later lead.gathered.mean lead.later_facts.by_id (head_class def.head) (head_nulls def.head))
 
   abbrev pub rule_step : HoldsTakers m heads takers def net → RuleStep m more net changes (head_change changes other net)
   rule_step holds =
@@ -115,6 +126,7 @@ module _ (m : Meaning) (heads more : Rows) (changes : List ClassChange) (takers 
           left_leads = head_leads changes other def net takers L is.is is.knows.head lead.gathered.lead;
           rights_lead = lead.gathered.lead;
           begin = begins_with_both changes other def.head def.nodes net.class net.nulls net.nodes.items is.is.class is.is.nulls is.knows.head is.is.stations;
+          own_ids = begins_with_own_ids more (head_cells L def.head) net.nodes.items later_own;
         };
         weighed = up.weighed;
       }

@@ -33,6 +33,7 @@ fn let_row_go(heads: &mut Heads, row: &Cells)
 }
 
 /// Lets the records go whose places these rows are.
+#[inline(always)]
 fn let_rows_go(heads: &mut Heads, rows: &[Cells])
     ensures now { heads.new.now ≡ heads_without rows.now heads.old.now }
     ensures base { KeepsBase heads.old heads.new }

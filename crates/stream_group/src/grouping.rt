@@ -44,6 +44,7 @@ impl Grouping {
     ghost use Rattle.stream_group.specs.Grouped.{AreHandedIn, closures_of, numbers_of};
 
     /// The numbers of the keys, then the collected one, each asked once of the row.
+    #[inline(always)]
     pub fn numbers<B: Book, L: Ledger>(
         &self,
         rules: &Rules<B>,

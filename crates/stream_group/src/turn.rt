@@ -32,6 +32,7 @@ fn group_cells(key: &[i64], number: i64) -> Cells
 }
 
 /// Appends the row of a group, if something was made of its rows.
+#[inline(always)]
 fn push_group(key: &[i64], made: Option<i64>, into: &mut Vec<Cells>) -> Result<(), Memory>
     requires { length key.now ≤ 2 }
     ensures { OnOk result (into.new.items ≡ into.old.items ++ rows_of_key key.now made) }

@@ -102,6 +102,7 @@ impl LastRow {
     }
 
     /// Reads numbers, up to three of them into the memory of as many parts.
+    #[inline(always)]
     fn read_numbers(&mut self, numbers: &[i64]) -> Result<(), Memory>
         requires { length numbers.now ≤ 4 }
         ensures done { OnOk result (self.new.row ≡ map Num numbers.now) }

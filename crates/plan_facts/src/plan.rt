@@ -280,6 +280,7 @@ impl Plan {
     }
 
     /// Sets one variable of an entity: to null, or to a live fact of its value class.
+    #[inline(always)]
     pub fn set(&mut self, class: u8, id: u32, var: u8, value: Option<u32>)
         requires there { IsSomeAnd (fact_of self.old class id) (λ raw. var < length raw.values) }
         requires value { IsTrue (is_value_of self.old (range_of self.old class var) value) }

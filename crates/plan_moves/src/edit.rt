@@ -143,6 +143,7 @@ impl Edit {
 
     /// Adds a variable with its value, unless that variable is in the edit already.
     #[tactic(auto, using(crate::proofs::Filled::put_new))]
+    #[inline(always)]
     pub fn put_new(&mut self, set: Set) -> Result<(), Memory>
         ensures ok { OnOk result (self.new ≡ with_new self.old set) }
         ensures err { OnErr result (self.new ≡ self.old) }
@@ -177,6 +178,7 @@ impl Edit {
     }
 
     /// Whether the edit is legal and changes some variable.
+    #[inline(always)]
     pub fn doable(&self, _: &Schema, plan: &Plan) -> bool
         ensures { result ≡ is_doable plan.now self.now }
     {
@@ -210,6 +212,7 @@ impl Edit {
     }
 
     /// The entities that the edit sets variables of, each once, in the order of class and id.
+    #[inline(always)]
     pub fn touched(&self) -> Result<List<Touch>, Memory>
         ensures touched { IfOk result (λ touches. touches ≡ touched_by self.now) }
         ensures order { IfOk result AreTouchesInOrder }

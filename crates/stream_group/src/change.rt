@@ -82,6 +82,7 @@ pub fn run_len(changes: &[Change], key: &[i64], width: usize) -> usize
 }
 
 /// Whether the row is one of those that go.
+#[inline(always)]
 pub fn goes(changes: &[Change], member: &Member) -> bool
     ensures { result ≡ is_one_of (gone_in changes.now) member.now }
 {

@@ -18,6 +18,7 @@ pub struct Grouping {
 }
 
 /// The number that the collector asks of a row, or 0 where it asks none.
+#[inline(always)]
 fn number_asked<B: Book, L: Ledger>(
     rules: &Rules<B>,
     collect: Collect,

@@ -72,6 +72,7 @@ fn same_cell(one: Cell, other: Cell) -> bool
 }
 
 /// Whether four cells are the same as four others.
+#[inline(always)]
 fn same_four(one: &[Cell; WIDEST], other: &[Cell; WIDEST]) -> bool
     ensures { result ≡ same_cells one.now other.now }
 {

@@ -1,3 +1,4 @@
+pub mod Due
 pub mod Jobs
 pub mod Judging
 pub mod Laws

@@ -1,8 +1,11 @@
-ghost use Rattle.std.specs.Prelude.{◌≡◌, IfOk, IfSome, IsTrue, None, OnErr, OnOk};
+ghost use Rattle.std.specs.Prelude.{◌≡◌, ◌+◌, ◌^◌, ◌<◌, ◌≤◌, IfOk, IfSome, IsTrue, None, OnErr, OnOk, map};
 ghost use Rattle.plan_moves.specs.Edits.{is_legal};
 ghost use Rattle.plan_rules.specs.Range.{sizes_of};
-ghost use Rattle.move_workers.specs.Judging.{played};
+ghost use Rattle.move_workers.specs.Due.{stands};
+ghost use Rattle.move_workers.specs.Jobs.{IsIdle, IsWorked, found_from};
+ghost use Rattle.move_workers.specs.Judging.{found_in, played};
 
+use crate::due::{Due, Stand, make, make_due, restart};
 use crate::job::{Share, work};
 use crate::kit::Kit;
 use crate::worker::Worker;
@@ -15,24 +18,25 @@ use score_director::Director;
 use std::alloc::Global;
 use std::marker::Model;
 
-/// A worker that follows the lead of its team. An edit that the lead has made it makes itself when it works next, so that all
-/// followers make it at once. What contracts see of it is the worker after that edit.
+/// A worker that follows the lead of its team. It is made when it works first, and an edit that the lead has made it makes
+/// itself when it works next, so that all followers do both at once. What contracts see of it is the worker after that edit.
 #[derive(Drop)]
 pub struct Follower<B: Book> {
-    worker: Worker<B>,
+    stand: Stand<Worker<B>>,
     late: Option<Edit>,
 }
 
 impl<B: Book> Model for Follower<B> {
     ghost use Rattle.std.specs.Prelude.{IfSome, IsTrue};
     ghost use Rattle.plan_moves.specs.Edits.{is_legal};
+    ghost use Rattle.move_workers.specs.Due.{stands};
     ghost use Rattle.move_workers.specs.Judging.{WorkerView, played};
 
     ghost Value = { WorkerView };
 
-    ghost view = { λ f. played f.worker f.late };
+    ghost view = { λ f. played (stands f.stand) f.late };
 
-    ghost invariant = { λ f. IfSome f.late (λ sets. IsTrue (is_legal f.worker.director.plan sets)) };
+    ghost invariant = { λ f. IfSome f.late (λ sets. IsTrue (is_legal (stands f.stand).director.plan sets)) };
 }
 
 /// A copy of an edit.
@@ -44,26 +48,54 @@ fn copy_of(alloc: Global, edit: &Edit) -> Result<Edit, Memory>
     Ok(copy)
 }
 
-/// A worker makes the edit that it has yet to make, if there is one. At want of memory all is as before.
+/// The edit that is yet to be made is made, if there is one. At want of memory all is as before.
 fn catch_up<B: Book>(
     kit: &Kit<'_, B>,
-    worker: &mut Worker<B>,
+    stand: &mut Stand<Worker<B>>,
     late: &mut Option<Edit>,
 ) -> Result<(), Memory>
-    requires judges { let seen = worker.old.director in
+    requires judges { let seen = (stands stand.old).director in
         ⟦<Rules<B> as Judges>⟧.judges kit.now.rules.now seen.weights (sizes_of seen.plan) }
-    requires own { kit.now.rules.now.defs ≡ worker.old.director.rules }
-    requires legal { IfSome late.old (λ sets. IsTrue (is_legal worker.old.director.plan sets)) }
-    ensures made { OnOk result (worker.new ≡ played worker.old late.old) }
+    requires own { kit.now.rules.now.defs ≡ (stands stand.old).director.rules }
+    requires legal { IfSome late.old (λ sets. IsTrue (is_legal (stands stand.old).director.plan sets)) }
+    ensures made { OnOk result (stands stand.new ≡ played (stands stand.old) late.old) }
     ensures none { OnOk result (late.new ≡ None) }
-    ensures err { OnErr result (worker.new ≡ worker.old) }
+    ensures err { OnErr result (stands stand.new ≡ stands stand.old) }
     ensures stays { OnErr result (late.new ≡ late.old) }
 {
     if let Some(edit) = late {
-        worker.make(kit, edit)?;
+        make(kit, stand, edit)?;
     }
     *late = None;
     Ok(())
+}
+
+/// Judges the candidates of a share of a batch, where the worker isn't only due. It stays as it was.
+fn work_on<B: Book, G: Gate>(
+    stand: &mut Stand<Worker<B>>,
+    share: &mut Share,
+    kit: &Kit<'_, B>,
+    gate: &G,
+    board: &Board,
+    step: u32,
+    first: u32,
+)
+    requires judges { let seen = (stands stand.old).director in
+        ⟦<Rules<B> as Judges>⟧.judges kit.now.rules.now seen.weights (sizes_of seen.plan) }
+    requires own { kit.now.rules.now.defs ≡ (stands stand.old).director.rules }
+    requires seed { kit.now.seed ≡ (stands stand.old).seed }
+    requires step { 1 ≤ step }
+    requires fits { first + board.now.limit < 2 ^ 32 }
+    requires idle { IsIdle board.now share.old }
+    ensures worked { let makes = map (λ maker. made maker) kit.now.makers.now in
+        let found = found_in B.meaning kit.now.seed kit.now.selectors.now makes step (stands stand.old) in
+        IsWorked board.now (found_from found first) share.new }
+    ensures same { stands stand.new ≡ stands stand.old }
+{
+    match stand {
+        Stand::Works(worker) => work(worker, share, kit, gate, board, step, first),
+        Stand::Due(_) => share.is_short = true,
+    }
 }
 
 impl<B: Book> Follower<B> {
@@ -71,13 +103,18 @@ impl<B: Book> Follower<B> {
     ghost use Rattle.plan_moves.specs.Edits.{is_legal};
     ghost use Rattle.plan_rules.specs.Range.{sizes_of};
     ghost use Rattle.move_workers.specs.Jobs.{IsIdle, IsWorked, found_from};
+    ghost use Rattle.move_workers.specs.Due.{worker_due};
     ghost use Rattle.move_workers.specs.Judging.{found_in, played, with_director};
+    ghost use Rattle.score_director.specs.View.{at_rest};
 
-    /// A follower with nothing to make.
-    pub fn new(worker: Worker<B>) -> Follower<B>
-        ensures { result ≡ worker }
+    /// A follower that is made of this when it works first.
+    pub fn new(due: Due) -> Follower<B>
+        ensures { result ≡ worker_due due }
     {
-        Follower { worker, late: None }
+        Follower {
+            stand: Stand::Due(due),
+            late: None,
+        }
     }
 
     /// Judges the candidates of its share of a batch. It stays as it was.
@@ -102,11 +139,12 @@ impl<B: Book> Follower<B> {
             IsWorked board.now (found_from found first) share.new }
         ensures same { self.new ≡ self.old }
     {
-        if catch_up(kit, &mut self.worker, &mut self.late).is_err() {
+        let caught_up = catch_up(kit, &mut self.stand, &mut self.late);
+        if caught_up.is_err() || make_due(kit, &mut self.stand).is_err() {
             share.is_short = true;
             return;
         }
-        work(&mut self.worker, share, kit, gate, board, step, first);
+        work_on(&mut self.stand, share, kit, gate, board, step, first);
     }
 
     /// Follows its lead, which has made an edit that was legal. At want of memory all is as before.
@@ -119,17 +157,26 @@ impl<B: Book> Follower<B> {
         ensures err { OnErr result (self.new ≡ self.old) }
     {
         let next = copy_of(alloc, edit)?;
-        catch_up(kit, &mut self.worker, &mut self.late)?;
+        catch_up(kit, &mut self.stand, &mut self.late)?;
         self.late = Some(next);
         Ok(())
     }
 
-    /// Goes on with another director, on whose plan it has nothing to make.
-    pub fn restart(&mut self, director: Director<B>)
-        requires { director.base ≡ None }
-        ensures { self.new ≡ with_director self.old director }
+    /// Goes on with a copy of a director, on whose plan it has nothing to make. At want of memory all is as before.
+    pub fn restart(
+        &mut self,
+        alloc: Global,
+        kit: &Kit<'_, B>,
+        director: &Director<B>,
+        weights: &[u32],
+    ) -> Result<(), Memory>
+        requires rest { director.now ≡ at_rest kit.now.rules.now.defs weights.now director.now.plan }
+        requires judges { ⟦<Rules<B> as Judges>⟧.judges kit.now.rules.now weights.now (sizes_of director.now.plan) }
+        ensures ok { OnOk result (self.new ≡ with_director self.old director.now) }
+        ensures err { OnErr result (self.new ≡ self.old) }
     {
+        restart(alloc, kit, &mut self.stand, director, weights)?;
         self.late = None;
-        self.worker.restart(director);
+        Ok(())
     }
 }

@@ -4,6 +4,7 @@
 mod alone;
 mod batch;
 mod draw;
+mod due;
 mod follower;
 mod job;
 mod kit;

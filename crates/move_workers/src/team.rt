@@ -7,13 +7,13 @@ ghost use Rattle.score_director.specs.View.{at_rest};
 ghost use Rattle.move_workers.specs.Judging.{HasPlayed, LeadsTo, WorkerView, candidate_in, played, with_director, worker_after, worker_of};
 ghost use Rattle.move_workers.specs.Teams.{AreAll, MayMake};
 
-use crate::alone::director_alone;
 use crate::batch::judged_by;
+use crate::due::due_on;
 use crate::follower::Follower;
 use crate::kit::Kit;
 use crate::worker::Worker;
 use plan_changes::Ready;
-use plan_facts::{List, Memory, Names, Plan};
+use plan_facts::{Memory, Names, Plan};
 use plan_moves::{Edit, MoveMaker};
 use plan_ports::Gate;
 use plan_rules::{Book, Judges, Kept, Rules};
@@ -46,22 +46,6 @@ impl<B: Book> Model for Team<B> {
     ghost invariant = { λ t. IsTeam t.lead.value t.others.items t.is_torn };
 }
 
-/// A director of a copy of another one's plan, under the same weights.
-fn twin_of<B: Book>(
-    alloc: Global,
-    kit: &Kit<'_, B>,
-    director: &Director<B>,
-    weights: &[u32],
-) -> Result<Director<B>, Memory>
-    requires rest { director.now ≡ at_rest kit.now.rules.now.defs weights.now director.now.plan }
-    requires judges { ⟦<Rules<B> as Judges>⟧.judges kit.now.rules.now weights.now (sizes_of director.now.plan) }
-    ensures { IfOk result (λ twin. twin ≡ director.now) }
-{
-    let plan = director.plan().copy()?;
-    let weights = List::from_slice(alloc, weights)?;
-    director_alone(alloc, kit.rules, plan, weights)
-}
-
 /// A worker on a director's plan, in memory of its own, so that a team isn't larger than what is lent of it.
 fn lead_on<B: Book>(
     alloc: Global,
@@ -83,13 +67,12 @@ fn add_follower<B: Book>(
     weights: &[u32],
     others: &mut Vec<Follower<B>>,
 ) -> Result<(), Memory>
-    requires rest { director.now ≡ at_rest kit.now.rules.now.defs weights.now director.now.plan }
-    requires judges { ⟦<Rules<B> as Judges>⟧.judges kit.now.rules.now weights.now (sizes_of director.now.plan) }
+    requires { director.now ≡ at_rest kit.now.rules.now.defs weights.now director.now.plan }
     ensures { let worker = worker_of director.now kit.now.seed in
         OnOk result (others.new.items ≡ others.old.items ++ worker ∷ []) }
 {
-    let twin = twin_of(alloc, kit, director, weights)?;
-    others.push(Follower::new(Worker::new(alloc, kit, twin)?))?;
+    let due = due_on(alloc, kit, director.plan(), weights)?;
+    others.push(Follower::new(due))?;
     Ok(())
 }
 
@@ -101,8 +84,7 @@ fn followers_of<B: Book>(
     weights: &[u32],
     count: u32,
 ) -> Result<Vec<Follower<B>>, Memory>
-    requires rest { director.now ≡ at_rest kit.now.rules.now.defs weights.now director.now.plan }
-    requires judges { ⟦<Rules<B> as Judges>⟧.judges kit.now.rules.now weights.now (sizes_of director.now.plan) }
+    requires { director.now ≡ at_rest kit.now.rules.now.defs weights.now director.now.plan }
     ensures alike { IfOk result (λ all. AreAll (worker_of director.now kit.now.seed) all.items) }
     ensures len { IfOk result (λ all. vec_len all ≡ count) }
 {
@@ -173,9 +155,7 @@ fn restart_one<B: Book>(
     requires judges { ⟦<Rules<B> as Judges>⟧.judges kit.now.rules.now weights.now (sizes_of director.now.plan) }
     ensures { OnOk result (one.new ≡ with_director one.old director.now) }
 {
-    let twin = twin_of(alloc, kit, director, weights)?;
-    one.restart(twin);
-    Ok(())
+    one.restart(alloc, kit, director, weights)
 }
 
 /// Each follower goes on with a copy of a director.

@@ -551,31 +551,60 @@ fn two_workers_judge_at_once(rt: HostRuntime) -> Result<(), Fail> {
     Ok(())
 }
 
-/// Whether a team plays a pillar, and all that is asked of it says so.
-fn plays_for_all(team: &mut Team<Silent>, kit: &Kit<'_, Silent>) -> Result<bool, Memory>
+/// A team plays a pillar, after which it may judge as before.
+fn play_for_all(team: &mut Team<Silent>, kit: &Kit<'_, Silent>) -> Result<Option<Edit>, Memory>
     requires whole { team.old.is_torn ≡ false }
     requires judges { let seen = team.old.worker.director in
         ⟦<Rules<Silent> as Judges>⟧.judges kit.now.rules.now seen.weights (sizes_of seen.plan) }
     requires own { kit.now.rules.now.defs ≡ team.old.worker.director.rules }
     requires seed { kit.now.seed ≡ team.old.worker.seed }
     ensures whole { OnOk result (team.new.is_torn ≡ false) }
+    ensures judges { let seen = team.new.worker.director in
+        OnOk result (⟦<Rules<Silent> as Judges>⟧.judges kit.now.rules.now seen.weights (sizes_of seen.plan)) }
+    ensures own { OnOk result (kit.now.rules.now.defs ≡ team.new.worker.director.rules) }
+    ensures seed { OnOk result (kit.now.seed ≡ team.new.worker.seed) }
 {
     let back = team.play(kit, 1, 2)?;
-    Ok(
-        empties_two(&back)
-            && team.score() == taken(4)
-            && team.lead().score() == taken(4)
-            && team.plan().facts(SHIFT).len() == 4,
-    )
+    Ok(back)
 }
 
-/// Whether a team of eight plays, and gives up a director.
-fn try_team(alloc: Global, kit: &Kit<'_, Silent>) -> Result<bool, Fail>
+/// Whether all that is asked of a team that has played a pillar says so.
+fn has_played(team: &Team<Silent>, back: &Option<Edit>) -> bool {
+    empties_two(back)
+        && team.score() == taken(4)
+        && team.lead().score() == taken(4)
+        && team.plan().facts(SHIFT).len() == 4
+}
+
+/// Whether a team that has played a pillar finds what is known of the middle one of five candidates, whoever judges it.
+fn judges_later<T: Threads + Sync>(
+    rt: &T,
+    team: &mut Team<Silent>,
+    kit: &Kit<'_, Silent>,
+) -> Result<bool, Memory>
+    requires whole { team.old.is_torn ≡ false }
+    requires judges { let seen = team.old.worker.director in
+        ⟦<Rules<Silent> as Judges>⟧.judges kit.now.rules.now seen.weights (sizes_of seen.plan) }
+    requires own { kit.now.rules.now.defs ≡ team.old.worker.director.rules }
+    requires seed { kit.now.seed ≡ team.old.worker.seed }
+    ensures { team.new ≡ team.old }
+{
+    let all = team.judged(rt, kit, &NoGate, 2, 9731, 5)?;
+    match all.get(2) {
+        Some(found) => Ok(is_found(found, Some(LATER))),
+        None => Ok(false),
+    }
+}
+
+/// Whether a team of eight plays, finds what is left then, and gives up a director.
+fn try_team<T: Threads + Sync>(rt: &T, alloc: Global, kit: &Kit<'_, Silent>) -> Result<bool, Fail>
     requires { ⟦<Rules<Silent> as Kept>⟧.keeps kit.now.rules.now }
 {
     let mut team = team_of(alloc, kit, 8)?;
-    let played = plays_for_all(&mut team, kit)?;
-    Ok(played && has_shifts(team.into_director()))
+    let back = play_for_all(&mut team, kit)?;
+    let played = has_played(&team, &back);
+    let found = judges_later(rt, &mut team, kit)?;
+    Ok(played && found && has_shifts(team.into_director()))
 }
 
 #[test]
@@ -607,7 +636,7 @@ fn try_by<T: Threads + Sync>(
         Trial::Worker => try_worker(alloc, kit),
         Trial::Hands => try_all_hands(rt, alloc, kit),
         Trial::Gates => try_both_gates(rt, alloc, kit),
-        Trial::Team => try_team(alloc, kit),
+        Trial::Team => try_team(rt, alloc, kit),
         Trial::Turns => try_turns(rt, alloc, kit),
     }
 }

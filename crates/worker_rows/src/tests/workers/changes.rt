@@ -278,21 +278,24 @@ fn take_all<T: Threads + Sync>(
     Ok(taken && ended)
 }
 
-/// Whether a team of so many workers takes all turns as is wanted.
+/// Whether a team of so many workers takes all turns as is wanted, once it has judged so many candidates.
 fn try_turns_by<T: Threads + Sync>(
     rt: &T,
     alloc: Global,
     kit: &Kit<'_, Silent>,
     workers: u32,
+    before: u32,
 ) -> Result<bool, Fail>
     requires keeps { ⟦<Rules<Silent> as Kept>⟧.keeps kit.now.rules.now }
     requires workers { (1 ≤ workers) × (workers ≤ 16) }
+    requires before { before ≤ 1024 }
 {
     let mut team = team_of(alloc, kit, workers)?;
+    team.judged(rt, kit, &NoGate, 1, 0, before)?;
     take_all(rt, alloc, &mut team, kit)
 }
 
-/// Whether teams of one and of three take all turns as is wanted.
+/// Whether teams of one and of three take all turns as is wanted, the latter also where all of it have worked before.
 pub fn try_turns<T: Threads + Sync>(
     rt: &T,
     alloc: Global,
@@ -300,9 +303,10 @@ pub fn try_turns<T: Threads + Sync>(
 ) -> Result<bool, Fail>
     requires { ⟦<Rules<Silent> as Kept>⟧.keeps kit.now.rules.now }
 {
-    let one = try_turns_by(rt, alloc, kit, 1)?;
-    let three = try_turns_by(rt, alloc, kit, 3)?;
-    Ok(one && three)
+    let one = try_turns_by(rt, alloc, kit, 1, 0)?;
+    let three = try_turns_by(rt, alloc, kit, 3, 0)?;
+    let at_work = try_turns_by(rt, alloc, kit, 3, BATCH)?;
+    Ok(one && three && at_work)
 }
 
 // Candidate 0 of step 1 gives the third of three pillars the third of four choices, as before the changes; these are nurses

@@ -1,4 +1,5 @@
 -- What a follower stands with, as contracts see it.
+use Rattle.std.specs.Prelude.{Bool, false, true}
 use Rattle.score_director.specs.View.{at_rest}
 use Rattle.move_workers.specs.declared.due.Due.{Due}
 use Rattle.move_workers.specs.declared.due.Stand.{Stand}
@@ -13,3 +14,8 @@ worker_due due = worker_of (at_rest due.rules due.weights due.plan) due.seed
 abbrev pub stands : Stand WorkerView → WorkerView
 stands (stand.Works worker) = worker
 stands (stand.Due due) = worker_due due
+
+-- a worker stands here
+abbrev pub works : Stand WorkerView → Bool
+works (stand.Works _) = true
+works (stand.Due _) = false

@@ -3,7 +3,7 @@ ghost use Rattle.std.specs.Prelude.{◌≡◌, IfOk, IsTrue, OnErr, OnOk, Some};
 ghost use Rattle.plan_moves.specs.Edits.{is_legal};
 ghost use Rattle.plan_rules.specs.Range.{sizes_of};
 ghost use Rattle.score_director.specs.View.{at_rest};
-ghost use Rattle.move_workers.specs.Due.{stands, worker_due};
+ghost use Rattle.move_workers.specs.Due.{stands, worker_due, works};
 ghost use Rattle.move_workers.specs.Judging.{played, with_director, worker_of};
 
 use crate::alone::director_alone;
@@ -64,13 +64,14 @@ fn worker_due<B: Book>(kit: &Kit<'_, B>, due: &Due) -> Result<Worker<B>, Memory>
     Ok(Worker::new(due.alloc, kit, director)?)
 }
 
-/// Makes the worker where it is due. What contracts see of it stays.
+/// Makes the worker where it is due, so that one stands here. What contracts see of it stays.
 pub fn make_due<B: Book>(kit: &Kit<'_, B>, stand: &mut Stand<Worker<B>>) -> Result<(), Memory>
     requires judges { let seen = (stands stand.old).director in
         ⟦<Rules<B> as Judges>⟧.judges kit.now.rules.now seen.weights (sizes_of seen.plan) }
     requires own { kit.now.rules.now.defs ≡ (stands stand.old).director.rules }
     requires seed { kit.now.seed ≡ (stands stand.old).seed }
-    ensures { stands stand.new ≡ stands stand.old }
+    ensures works { OnOk result (IsTrue (works stand.new)) }
+    ensures same { stands stand.new ≡ stands stand.old }
 {
     let worker = match stand {
         Stand::Works(_) => return Ok(()),

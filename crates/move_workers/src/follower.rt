@@ -1,7 +1,7 @@
 ghost use Rattle.std.specs.Prelude.{◌≡◌, ◌+◌, ◌^◌, ◌<◌, ◌≤◌, IfOk, IfSome, IsTrue, None, OnErr, OnOk, map};
 ghost use Rattle.plan_moves.specs.Edits.{is_legal};
 ghost use Rattle.plan_rules.specs.Range.{sizes_of};
-ghost use Rattle.move_workers.specs.Due.{stands};
+ghost use Rattle.move_workers.specs.Due.{stands, works};
 ghost use Rattle.move_workers.specs.Jobs.{IsIdle, IsWorked, found_from};
 ghost use Rattle.move_workers.specs.Judging.{found_in, played};
 
@@ -70,7 +70,7 @@ fn catch_up<B: Book>(
     Ok(())
 }
 
-/// Judges the candidates of a share of a batch, where the worker isn't only due. It stays as it was.
+/// The worker that stands here judges the candidates of its share of a batch. It stays as it was.
 fn work_on<B: Book, G: Gate>(
     stand: &mut Stand<Worker<B>>,
     share: &mut Share,
@@ -80,6 +80,7 @@ fn work_on<B: Book, G: Gate>(
     step: u32,
     first: u32,
 )
+    requires works { IsTrue (works stand.old) }
     requires judges { let seen = (stands stand.old).director in
         ⟦<Rules<B> as Judges>⟧.judges kit.now.rules.now seen.weights (sizes_of seen.plan) }
     requires own { kit.now.rules.now.defs ≡ (stands stand.old).director.rules }
@@ -94,7 +95,7 @@ fn work_on<B: Book, G: Gate>(
 {
     match stand {
         Stand::Works(worker) => work(worker, share, kit, gate, board, step, first),
-        Stand::Due(_) => share.is_short = true,
+        Stand::Due(_) => unreachable!(),
     }
 }
 

@@ -139,12 +139,28 @@ impl Cells {
         false
     }
 
+    /// The row of two cells.
+    #[inline(always)]
+    fn pair(one: Cell, other: Cell) -> Cells
+        ensures { result ≡ one ∷ other ∷ [] }
+    {
+        let none = Cell::Num(0);
+        Cells {
+            cells: [one, other, none, none],
+            len: 2,
+        }
+    }
+
     /// The row with the first cell of another one behind it, where there is room.
+    #[inline(always)]
     pub fn beside(&self, other: &Cells) -> Cells
         ensures { result ≡ beside self.now other.now }
     {
         if other.len == 0 || self.len == WIDEST {
             return *self;
+        }
+        if self.len == 1 {
+            return Cells::pair(self.cells[0], other.cells[0]);
         }
         self.with(other.cells[0])
     }

@@ -225,6 +225,13 @@ abbrev pub desk : Terms → List Event → Desk
 desk t [] = empty_desk t
 desk t (event ∷ older) = next_desk t (desk t older) event
 
+-- after worker 0 claimed a number and judged it
+abbrev pub judged_by_one : Desk → ℕ → Option Found → Desk
+judged_by_one d number found = record d {
+  claims = with_value d.claims number 0;
+  verdicts = with_value d.verdicts number found;
+}
+
 -- how an event is answered: by its fault, or else its reply
 abbrev pub answer : Terms → Desk → Event → Result Reply CoreFault
 answer t d event = option_map_or (λ fault. Err fault) (fault_of t d event) (Ok (reply_to t d event))

@@ -58,7 +58,7 @@ impl Core {
     ghost use Rattle.std.specs.Bool.{OnTrue, OnFalse};
     ghost use Rattle.search_core.specs.ByNumber.{value_at};
     ghost use Rattle.search_core.specs.declared.event.Event.TheVariants as event;
-    ghost use Rattle.search_core.specs.Desk.{Desk, Terms, after_step, choice_on, claim_fault, cut_fault, first_asked, is_decided, judge_fault, may_judge, more_count, phase_after, start_fault, step_fault, unjudged, with_more};
+    ghost use Rattle.search_core.specs.Desk.{Desk, Terms, after_step, choice_on, claim_fault, cut_fault, first_asked, is_decided, judge_fault, judged_by_one, may_judge, more_count, phase_after, start_fault, step_fault, unjudged, with_more};
     ghost use Rattle.search_core.specs.Keeps.{Answers, GoesOn, HasRoomFor, Keeps, KeepsAfter, KeepsOn, StandsFor, Stays, TakesAny, terms_of};
 
     /// A core that stands for no events. The buffer says how many candidates a step asks at once: 1 to 1,024.
@@ -283,6 +283,18 @@ impl Core {
         }
         self.verdicts.put(number, found)?;
         Ok(Reply::Noted)
+    }
+
+    /// Notes that worker 0 claimed a number that wasn't judged, and what it found of it: what a Claim and a Judge of it that have
+    /// no fault leave.
+    pub(crate) fn note_found(&mut self, number: u32, found: Option<Found>) -> Result<(), Memory>
+        requires { value_at self.old.verdicts number ≡ None }
+        ensures ok { OnOk result (KeepsAfter self.old (λ _ d. judged_by_one d number found) self.new) }
+        ensures terms { terms_of self.new ≡ terms_of self.old }
+    {
+        self.claims.put(number, 0)?;
+        self.verdicts.put(number, found)?;
+        Ok(())
     }
 
     /// Looks at the next asked number, if it is judged: its entry, if it has one, joins the others.

@@ -40,19 +40,8 @@ pub fn record_found(
     requires { JudgesAt core.old step number }
     ensures { OnOk result (StandsWithFound core.old step number found core.new) }
 {
-    let claim = Event::Claim {
-        worker: 0,
-        step,
-        number,
-    };
-    take(core, claim)?;
-    let judge = Event::Judge {
-        worker: 0,
-        step,
-        number,
-        found,
-    };
-    take(core, judge)?;
+    let _ = step;
+    core.note_found(number, found)?;
     Ok(())
 }
 

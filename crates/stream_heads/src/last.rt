@@ -20,7 +20,9 @@ pub struct Pair {
 /// the part that differs, and numbers are read into the memory of its parts.
 #[derive(Drop)]
 pub struct LastRow {
+    alloc: Global,
     pair: Option<Pair>,
+    is_shared: bool,
     pub row: Row,
 }
 
@@ -32,17 +34,23 @@ impl LastRow {
         ensures { (heads : Rows) → IsReadBy heads result }
     {
         LastRow {
+            alloc,
             pair: None,
+            is_shared: false,
             row: Row::new(alloc),
         }
     }
 
-    /// Forgets what was read; the memory stays. To be called where other heads are read than before, or after a change of
-    /// them.
+    /// Forgets what was read, and lets go of the records that it shares with the heads, so that their memory can be used
+    /// again; the memory of numbers stays. To be called where other heads are read than before, or after a change of them.
     pub fn forget(&mut self)
         ensures { (heads : Rows) → IsReadBy heads self.new }
     {
         self.pair = None;
+        if self.is_shared {
+            self.is_shared = false;
+            self.row = Row::new(self.alloc);
+        }
     }
 
     /// Puts the second of two records in, where the row is of the first one already. Whether it was done.
@@ -95,6 +103,7 @@ impl LastRow {
             (Some(one), Some(other)) => {
                 self.row = Row::joined(one, other)?;
                 self.pair = Some(pair);
+                self.is_shared = true;
                 Ok(true)
             }
             _ => Ok(false),
@@ -109,6 +118,7 @@ impl LastRow {
         ensures read { self.new.pair ≡ None }
     {
         self.pair = None;
+        self.is_shared = false;
         self.row.put_numbers(numbers)
     }
 
@@ -118,6 +128,7 @@ impl LastRow {
         ensures read { self.new.pair ≡ None }
     {
         self.pair = None;
+        self.is_shared = true;
         self.row = heads.row(cells)?;
         Ok(())
     }

@@ -1,8 +1,7 @@
 -- The records of a class that take part have ids of their own.
-use Rattle.std.proofs.Common.{◌≡◌, ◌<◌, ◌≤◌, ◌+◌, ◌∙◌, ℕ, Bool, true, false, List, [], ◌∷◌, cond, filter, length, map, refl, sym, ap, subst, arith}
-use Rattle.std.specs.Prelude.{◌==◌, All, count_by, sum_by}
+use Rattle.std.proofs.Common.{◌≡◌, ◌<◌, ◌≤◌, ◌+◌, ◌∙◌, ℕ, Bool, true, false, List, [], ◌∷◌, cond, filter, refl, ap, subst, arith}
+use Rattle.std.specs.Prelude.{◌==◌, All, sum_by}
 use Rattle.std.specs.Cmp.{unsigned_Decides}
-use Rattle.std.specs.List.{Contains}
 use Rattle.std.proofs.lemmas.Bool.{false_from_ne_true}
 use Rattle.std.proofs.lemmas.List.Elements.{All-contains, All-head, All-tail}
 use Rattle.std.proofs.lemmas.List.Sums.{sum_by-cons}
@@ -11,7 +10,7 @@ use Rattle.plan_rules.specs.Order.{AreById}
 use Rattle.plan_rules.specs.Rows as rows
 use Rattle.plan_rules.specs.Rows.{Facts, is_placed}
 use Rattle.plan_rules.proofs.Rising.{Rising, rising_from_pairs}
-use Rattle.plan_rules.proofs.Sums.{sum_by-filter, sum_by-map}
+use Rattle.plan_rules.proofs.Sums.{sum_by-map}
 use Rattle.stream_heads.specs.declared.cells.Cell.{Cell}
 use Rattle.stream_heads.specs.Meant.{IsOneRecord, Rows, record_at}
 use Rattle.stream_join.specs.Pairing.{first_record}

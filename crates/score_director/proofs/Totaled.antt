@@ -1,7 +1,5 @@
 -- The score of rules from the sums of their match weights.
-use Rattle.std.proofs.Common.{◌≡◌, ◌∙◌, ◌+◌, ◌-◌, ◌*◌, ◌<◌, ◌≤◌, ◌^◌, ℕ, ℤ, Bool, true, false, pos, ◌+ℤ◌, neg_ℤ, negsuc, zero, suc, List, [], ◌∷◌, map, zip, drop, get_or, length, refl, sym, ap, subst, arith, if◌then◌else◌}
-use Rattle.std.specs.Prelude.{FitsSigned}
-use Rattle.std.specs.Int.{saturate_signed, w64}
+use Rattle.std.proofs.Common.{◌≡◌, ◌∙◌, ◌+◌, ◌-◌, ◌*◌, ◌<◌, ◌≤◌, ◌^◌, ℕ, Bool, true, false, pos, neg_ℤ, zero, suc, List, [], ◌∷◌, map, zip, drop, get_or, length, refl, sym, ap, subst, arith, if◌then◌else◌}
 use Rattle.std.proofs.lemmas.List.{drop_more, drop_all, get_or_default}
 use Rattle.std.proofs.lemmas.List.Sums.{sum_by-cons}
 use Rattle.plan_scores.specs.declared.level.Level.{Level}
@@ -18,15 +16,6 @@ use Rattle.plan_rules.specs.Totals.{signed}
 use Rattle.plan_rules.proofs.Scores.{scores_are_of_rules}
 use Rattle.score_director.specs.Net.{weights_of}
 use Rattle.score_director.specs.Sums.{IsScoreOfTotals, SumsUpTo, Totaled, impact_of_total, size_of_total, sizes_of_totals, sum_of_totals, totaled, totaled_from}
-
--- a number that fits is its own nearest
-pub saturated : (z : ℤ) → FitsSigned w64 z → saturate_signed w64 z ≡ z
-saturated (pos n) fits = ap pos (omega (arith, fits.sfits))
-saturated (negsuc n) fits = ap negsuc (omega (arith, fits.sfits))
-
--- nor does a sum of two that fit change, whatever else stands for them
-pub saturated_sum : (a b one other : ℤ) → one ≡ a → other ≡ b → FitsSigned w64 (a +ℤ b) → saturate_signed w64 (one +ℤ other) ≡ a +ℤ b
-saturated_sum a b one other is is' fits = (λ i. saturate_signed w64 (is i +ℤ is' i)) ∙ saturated (a +ℤ b) fits
 
 signed_within : (reward : Bool) (level : Level) (n : ℕ) → IsWithin n (score_at level (if reward then pos n else neg_ℤ (pos n)))
 signed_within true Hard n = record { hard = omega arith; medium = omega arith; soft = omega arith }

@@ -18,7 +18,8 @@ struct Attempt {
 }
 
 /// A plan under rules and weights, with its score and its matches, and at most one attempt at an edit in course. The
-/// score is always that of the whole plan as it is now, an attempt in course included.
+/// score is always that of the whole plan as it is now, an attempt in course included. The totals are what rules weighed in
+/// the plan that was judged last, kept for their memory alone.
 #[derive(Drop)]
 pub struct Director<B: Book> {
     alloc: Global,
@@ -28,6 +29,7 @@ pub struct Director<B: Book> {
     net: Net,
     score: PlanScore,
     attempt: Option<Attempt>,
+    totals: Vec<u64>,
     of: PhantomData<B>,
 }
 
@@ -68,6 +70,7 @@ impl<B: Book> Director<B> {
             net,
             score,
             attempt: None,
+            totals: Vec::new(alloc),
             of: PhantomData,
         })
     }
@@ -203,6 +206,7 @@ impl<B: Book> Director<B> {
             &self.plan,
             keys.as_slice(),
             self.weights.as_slice(),
+            &mut self.totals,
             steps,
         );
         back.apply(&mut self.plan);

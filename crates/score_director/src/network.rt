@@ -216,7 +216,8 @@ pub fn led_on<B: Book, L: Ledger>(
     }
 }
 
-/// What a plan is worth that has turned at these keys since the network stood for it. The network stays.
+/// What a plan is worth that has turned at these keys since the network stood for it. The network stays; what the rules
+/// weigh in that plan is left in `totals`, which is lent for its memory.
 pub fn foreseen<B: Book, L: Ledger>(
     alloc: Global,
     net: &mut Net,
@@ -224,6 +225,7 @@ pub fn foreseen<B: Book, L: Ledger>(
     plan: &Plan,
     keys: &[Touch],
     weights: &[u32],
+    totals: &mut Vec<u64>,
     steps: &mut Steps<L>,
 ) -> Result<PlanScore, Memory>
     requires judges { ⟦<Rules<B> as Judges>⟧.judges rules.now weights.now (sizes_of plan.now) }
@@ -231,8 +233,6 @@ pub fn foreseen<B: Book, L: Ledger>(
     ensures same { IsSameNet net.old net.new }
     ensures score { IfOk result (λ score. score ≡ whole_score B.meaning rules.now.defs weights.now plan.now) }
 {
-    let mut totals = Vec::new(alloc);
-    totals.reserve(rules.defs.len())?;
-    net.judge(rules, plan, keys, &mut totals, steps)?;
-    score_from(alloc, rules, plan, weights, &totals, steps)
+    net.judge(rules, plan, keys, totals, steps)?;
+    score_from(alloc, rules, plan, weights, totals, steps)
 }

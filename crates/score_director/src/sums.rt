@@ -6,27 +6,27 @@ ghost use Rattle.plan_rules.specs.Totals.{signed};
 ghost use Rattle.score_director.specs.Sums.{IsScoreOfTotals, sizes_of_totals, totaled};
 
 use plan_rules::RuleDef;
-use plan_scores::Score;
+use plan_scores::{Level, Score};
 
 /// As much as the rules of a plan add up to at most, whatever their signs.
 const MOST: u64 = 1 << 62;
 
-/// What a rule that weighs so much adds to the score, where that fits.
-fn impact_of(rule: &RuleDef, size: u64) -> Score
-    ensures { size < 2 ^ 63 → result ≡ score_at rule.now.level (signed rule.now size) }
+/// The number that a rule of this size adds to its level, where that fits.
+fn impact_of(rule: &RuleDef, size: u64) -> i64
+    ensures { size < 2 ^ 63 → result ≡ signed rule.now size }
 {
     let number = i64::try_from(size).unwrap_or(i64::MAX);
-    Score::at(rule.level, if rule.reward { number } else { -number })
+    if rule.reward { number } else { -number }
 }
 
-/// The sum, level by level, where that fits.
-fn added(score: &Score, more: &Score) -> Score
-    ensures { FitsScore (add_scores score.now more.now) → result ≡ add_scores score.now more.now }
+/// Adds a number to the score at one level, where the sum fits.
+fn add_at(score: &mut Score, level: Level, number: i64)
+    ensures { let sum = add_scores score.old (score_at level number) in FitsScore sum → score.new ≡ sum }
 {
-    Score {
-        hard: score.hard.saturating_add(more.hard),
-        medium: score.medium.saturating_add(more.medium),
-        soft: score.soft.saturating_add(more.soft),
+    match level {
+        Level::Hard => score.hard = score.hard.saturating_add(number),
+        Level::Medium => score.medium = score.medium.saturating_add(number),
+        Level::Soft => score.soft = score.soft.saturating_add(number),
     }
 }
 
@@ -46,7 +46,8 @@ pub fn score_of_totals(rules: &[RuleDef], weights: &[u32], totals: &[u64]) -> Op
             return None;
         }
         room -= size;
-        score = added(&score, &impact_of(&rules[place], size));
+        let rule = &rules[place];
+        add_at(&mut score, rule.level, impact_of(rule, size));
     }
     Some(score)
 }

@@ -21,8 +21,8 @@ loop-place-preserved c =
       λ few.
           sums_next c.args.rules.now c.args.weights.now c.args.totals.now c.loop-place.place rule _ c.loop-place.score _ _
           c.requires.weights c.requires.totals c.loop-place-test.true c.index-rules-place.is
-          (λ fits. c.impact_of.ensures (omega (arith, is, fits)) ∙ ap (λ n. score_at rule.level (signed rule n)) is)
-          c.added-score.ensures (c.loop-place.invariant.1 few),
+          (λ fits. ap (score_at rule.level) (c.impact_of.ensures (omega (arith, is, fits)) ∙ ap (signed rule) is))
+          c.add_at.ensures (c.loop-place.invariant.1 few),
     )
 
 pub returns-then-size-room-clause-none : goal.returns-then-size-room-clause-none

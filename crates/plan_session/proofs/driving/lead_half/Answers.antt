@@ -1,4 +1,4 @@
-use Rattle.std.proofs.Common.{◌≡◌, ◌∙◌, ◌≤◌, List, Option, Some, Err, IfSome, length, map, take, refl, sym, subst}
+use Rattle.std.proofs.Common.{◌≡◌, ◌∙◌, ◌≤◌, List, Option, Some, IfSome, length, map, take, refl, sym, subst}
 use Rattle.live_posts.specs.Cuts.{Take, taken_by}
 use Rattle.plan_changes.specs.declared.line.Post.{Post}
 use Rattle.plan_json.specs.Seen.{domain_view}

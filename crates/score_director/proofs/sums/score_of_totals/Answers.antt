@@ -1,4 +1,5 @@
-use Rattle.std.proofs.Common.{rules, ◌≡◌, ◌∙◌, ◌≤◌, ◌*◌, ℕ, get_or, ap, arith}
+use Rattle.std.proofs.Common.{rules, ◌≡◌, ◌∙◌, ◌≤◌, ◌*◌, ℕ, SFits, w64, get_or, ap, arith}
+use Rattle.std.proofs.lemmas.Int.{to_z-of_z}
 use Rattle.plan_rules.specs.Totals.{signed}
 use Rattle.plan_scores.specs.Sum.{score_at}
 use Rattle.score_director.specs.Sums.{sum_of_totals, totaled, totaled_from}
@@ -15,13 +16,14 @@ loop-place-preserved c =
     let product : c.from.result * total ≡ weight * total = ap (λ (n : ℕ). n * total) c.from.ensures in
     let is : c.saturating_mul-size.result ≡ weight * total =
     omega (arith, c.saturating_mul-size.ensures, product, c.if-size-room.false, c.loop-place.invariant.0.within) in
-    let rule = c.index-rules-place.result in (
+    let rule = c.index-rules-place.result in
+    let fitted : SFits w64 c.impact_of.result = search rules in (
       room_left c.args.rules.now c.args.weights.now c.args.totals.now c.loop-place.place c.loop-place.room c.saturating_mul-size.result
           c.requires.weights c.requires.totals c.loop-place-test.true is c.if-size-room.false c.loop-place.invariant.0,
       λ few.
           sums_next c.args.rules.now c.args.weights.now c.args.totals.now c.loop-place.place rule _ c.loop-place.score _ _
           c.requires.weights c.requires.totals c.loop-place-test.true c.index-rules-place.is
-          (λ fits. ap (score_at rule.level) (c.impact_of.ensures (omega (arith, is, fits)) ∙ ap (signed rule) is))
+          (λ fits. ap (score_at rule.level) (to_z-of_z w64 c.impact_of.result fitted ∙ c.impact_of.ensures (omega (arith, is, fits)) ∙ ap (signed rule) is))
           c.add_at.ensures (c.loop-place.invariant.1 few),
     )
 

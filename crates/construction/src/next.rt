@@ -32,10 +32,18 @@ pub enum Placing {
 }
 
 /// The course of a placing: what was placed, in order, and the entity at which it was stuck, if any.
-#[derive(Drop)]
 pub struct Course {
     pub placed: List<Placed>,
     pub stuck: Option<Touch>,
+}
+
+// Written out, so that its owners let go of it by one call.
+impl Drop for Course {
+    fn drop(self) {
+        let Course { placed, stuck } = self;
+        drop(placed);
+        drop(stuck);
+    }
 }
 
 /// The placing of an entity. All stays as before.

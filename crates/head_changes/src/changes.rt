@@ -7,10 +7,18 @@ use stream_heads::CellsDelta;
 
 /// What leads from the old records of a class to its new ones, as rows of one cell: of all records, and of
 /// those without a null variable.
-#[derive(Drop)]
 pub struct ClassChange {
     pub all: CellsDelta,
     pub placed: CellsDelta,
+}
+
+// Written out, so that its owners let go of it by one call.
+impl Drop for ClassChange {
+    fn drop(self) {
+        let ClassChange { all, placed } = self;
+        drop(all);
+        drop(placed);
+    }
 }
 
 /// Nothing went, nothing came.

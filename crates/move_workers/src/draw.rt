@@ -13,13 +13,28 @@ use std::alloc::Global;
 
 /// What candidates are drawn with: what they pick from, which is stale once facts came or went; their words, and the edit of
 /// the last one.
-#[derive(Drop)]
 pub struct Hand {
     pub alloc: Global,
     pub pool: Pool,
     pub is_stale: bool,
     pub draws: Draws,
     pub edit: Edit,
+}
+
+// Written out, so that its owners let go of it by one call.
+impl Drop for Hand {
+    fn drop(self) {
+        let Hand {
+            alloc: _,
+            pool,
+            is_stale: _,
+            draws,
+            edit,
+        } = self;
+        drop(pool);
+        drop(draws);
+        drop(edit);
+    }
 }
 
 /// Finds anew what candidates pick from, where that is stale.

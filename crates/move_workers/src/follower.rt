@@ -20,10 +20,18 @@ use std::marker::Model;
 
 /// A worker that follows the lead of its team. It is made when it works first, and an edit that the lead has made it makes
 /// itself when it works next, so that all followers do both at once. What contracts see of it is the worker after that edit.
-#[derive(Drop)]
 pub struct Follower<B: Book> {
     stand: Stand<Worker<B>>,
     late: Option<Edit>,
+}
+
+// Written out, so that its owners let go of it by one call.
+impl<B: Book> Drop for Follower<B> {
+    fn drop(self) {
+        let Follower { stand, late } = self;
+        drop(stand);
+        drop(late);
+    }
 }
 
 impl<B: Book> Model for Follower<B> {

@@ -27,12 +27,25 @@ use std::thread::Threads;
 /// A team of 1 to 16 workers on equal plans, which judge the candidates of a step at once: a lead, and others that follow it.
 /// It is torn once memory was wanting while its workers played or changed: they may be on different plans then, and it is of
 /// no use any more.
-#[derive(Drop)]
 pub struct Team<B: Book> {
     alloc: Global,
     lead: Box<Worker<B>>,
     others: Vec<Follower<B>>,
     is_torn: bool,
+}
+
+// Written out, so that its owners let go of it by one call.
+impl<B: Book> Drop for Team<B> {
+    fn drop(self) {
+        let Team {
+            alloc: _,
+            lead,
+            others,
+            is_torn: _,
+        } = self;
+        drop(lead);
+        drop(others);
+    }
 }
 
 impl<B: Book> Model for Team<B> {
@@ -430,7 +443,12 @@ impl<B: Book> Team<B> {
         ensures director { result ≡ self.worker.director }
         ensures rest { result.base ≡ None }
     {
-        let Team { lead, .. } = self;
+        let Team {
+            alloc: _,
+            lead,
+            others: _,
+            is_torn: _,
+        } = self;
         Box::into_inner(lead).into_director()
     }
 }

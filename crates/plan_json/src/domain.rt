@@ -6,7 +6,6 @@ use plan_moves::MoveMaker;
 use plan_rules::Rules;
 
 /// A domain: its name, its classes, its rules over them, and its makers of moves.
-#[derive(Drop)]
 pub struct Domain<B> {
     /// 1 to 32 bytes of a-z, 0-9 and `_`, with a letter first.
     pub name: Text,
@@ -17,6 +16,22 @@ pub struct Domain<B> {
     pub ghost named: { IsTrue (is_name name) },
     pub ghost over: { rules.schema ≡ schema },
     pub ghost few_makers: { vec_len makers < 2 ^ 32 },
+}
+
+// Written out, so that its owners let go of it by one call.
+impl<B> Drop for Domain<B> {
+    fn drop(self) {
+        let Domain {
+            name,
+            schema,
+            rules,
+            makers,
+        } = self;
+        drop(name);
+        drop(schema);
+        drop(rules);
+        drop(makers);
+    }
 }
 
 impl<B> Domain<B> {

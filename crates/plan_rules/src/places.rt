@@ -7,19 +7,40 @@ use std::alloc::Global;
 use std::marker::Model;
 
 /// The numbers of the closures that were handed in, kind by kind.
-#[derive(Drop)]
 pub struct Numbers {
     pub tests: Places,
     pub keys: Places,
     pub weighs: Places,
 }
 
+// Written out, so that its owners let go of it by one call.
+impl Drop for Numbers {
+    fn drop(self) {
+        let Numbers {
+            tests,
+            keys,
+            weighs,
+        } = self;
+        drop(tests);
+        drop(keys);
+        drop(weighs);
+    }
+}
+
 /// The numbers of the closures of one kind, each once, in the order in which they were handed in.
-#[derive(Drop)]
 pub struct Places {
     numbers: List<u16>,
     // at each number the place at which it stands
     table: List<Option<usize>>,
+}
+
+// Written out, so that its owners let go of it by one call.
+impl Drop for Places {
+    fn drop(self) {
+        let Places { numbers, table } = self;
+        drop(numbers);
+        drop(table);
+    }
 }
 
 impl Model for Places {

@@ -71,7 +71,6 @@ pub enum Node {
 
 /// A rule: a stream ended by a reward or a penalty. The impact of a match is the weight times the match weight, which
 /// is the weigher's answer, or 1 where `weigh` names none.
-#[derive(Drop)]
 pub struct RuleDef {
     pub name: Text,
     pub level: Level,
@@ -80,6 +79,25 @@ pub struct RuleDef {
     pub weigh: Option<u16>,
     pub head: Head,
     pub nodes: List<Node>,
+}
+
+// Written out, so that its owners let go of it by one call.
+impl Drop for RuleDef {
+    fn drop(self) {
+        let RuleDef {
+            name,
+            level: _,
+            reward: _,
+            weight: _,
+            weigh,
+            head,
+            nodes,
+        } = self;
+        drop(name);
+        drop(weigh);
+        drop(head);
+        drop(nodes);
+    }
 }
 
 impl Head {

@@ -22,7 +22,6 @@ use std::alloc::Global;
 use std::sync::ledger::Ledger;
 
 /// Rules over a schema, with the closures that they ask.
-#[derive(Drop)]
 pub struct Rules<B> {
     /// The schema that the rules are over.
     pub schema: Schema,
@@ -44,6 +43,32 @@ pub struct Rules<B> {
     pub ghost named: { names ≡ map (λ def. def.name) defs },
     pub ghost caps_are: { caps ≡ map (cap_of (capped weighs)) defs },
     pub ghost accepted: { rules_fault schema numbers defs harder ≡ None },
+}
+
+// Written out, so that its owners let go of it by one call.
+impl<B> Drop for Rules<B> {
+    fn drop(self) {
+        let Rules {
+            schema,
+            defs,
+            tests,
+            keys,
+            weighs,
+            harder,
+            numbers,
+            names,
+            caps,
+        } = self;
+        drop(schema);
+        drop(defs);
+        drop(tests);
+        drop(keys);
+        drop(weighs);
+        drop(harder);
+        drop(numbers);
+        drop(names);
+        drop(caps);
+    }
 }
 
 impl<B: Book> Kept for Rules<B> {

@@ -20,7 +20,6 @@ struct Attempt {
 /// A plan under rules and weights, with its score and its matches, and at most one attempt at an edit in course. The
 /// score is always that of the whole plan as it is now, an attempt in course included. The totals are what rules weighed in
 /// the plan that was judged last, kept for their memory alone.
-#[derive(Drop)]
 pub struct Director<B: Book> {
     alloc: Global,
     rules: List<RuleDef>,
@@ -31,6 +30,29 @@ pub struct Director<B: Book> {
     attempt: Option<Attempt>,
     totals: Vec<u64>,
     of: PhantomData<B>,
+}
+
+// Written out, so that its owners let go of it by one call.
+impl<B: Book> Drop for Director<B> {
+    fn drop(self) {
+        let Director {
+            alloc: _,
+            rules,
+            weights,
+            plan,
+            net,
+            score: _,
+            attempt,
+            totals,
+            of: _,
+        } = self;
+        drop(rules);
+        drop(weights);
+        drop(plan);
+        drop(net);
+        drop(attempt);
+        drop(totals);
+    }
 }
 
 impl<B: Book> Model for Director<B> {
@@ -100,7 +122,18 @@ impl<B: Book> Director<B> {
     pub fn into_plan(self) -> Plan
         ensures { result ≡ self.plan }
     {
-        self.plan
+        let Director {
+            alloc: _,
+            rules: _,
+            weights: _,
+            plan,
+            net: _,
+            score: _,
+            attempt: _,
+            totals: _,
+            of: _,
+        } = self;
+        plan
     }
 
     /// The rows at the end of a rule, in order.

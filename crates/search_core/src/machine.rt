@@ -26,7 +26,6 @@ enum Phase {
 }
 
 /// The search as far as its events tell: which step is in course, what was judged in it, and what the leg's acceptor needs.
-#[derive(Drop)]
 pub struct Core {
     settings: Settings,
     buffer: u32,
@@ -51,6 +50,31 @@ pub struct Core {
     ghost acceptor_kind: { acceptor.kind ≡ settings.acceptor },
     ghost acceptor_size: { acceptor.size ≡ acceptor_size settings },
     ghost acceptor_steps: { acceptor.steps ≤ chosen },
+}
+
+// Written out, so that its owners let go of it by one call.
+impl Drop for Core {
+    fn drop(self) {
+        let Core {
+            settings,
+            buffer: _,
+            acceptor,
+            cuts: _,
+            posts: _,
+            chosen: _,
+            phase: _,
+            asked: _,
+            claims,
+            verdicts,
+            looked: _,
+            forager,
+        } = self;
+        drop(settings);
+        drop(acceptor);
+        drop(claims);
+        drop(verdicts);
+        drop(forager);
+    }
 }
 
 impl Core {

@@ -10,11 +10,23 @@ use stream_index::Key;
 /// What a look ahead finds: the rows that come with their match weights, which are none where nothing weighs them, and
 /// what all rows add up to once the change is done. It is lent to one look after the other, and with it the row that the
 /// weigher was asked of last.
-#[derive(Drop)]
 pub struct EndAhead {
     pub come: Vec<Member>,
     pub total: u64,
     pub(crate) asked: LastRow,
+}
+
+// Written out, so that its owners let go of it by one call.
+impl Drop for EndAhead {
+    fn drop(self) {
+        let EndAhead {
+            come,
+            total: _,
+            asked,
+        } = self;
+        drop(come);
+        drop(asked);
+    }
 }
 
 impl EndAhead {

@@ -9,13 +9,28 @@ use std::alloc::Global;
 use stream_heads::Member;
 
 /// What a look ahead finds of the rows that go and come. It is lent to one look after the other.
-#[derive(Drop)]
 pub struct GroupAhead {
     /// The rows that come, with their numbers.
     pub come: Vec<Member>,
     pub(crate) changes: Vec<Change>,
     pub(crate) before: Tally,
     pub(crate) after: Tally,
+}
+
+// Written out, so that its owners let go of it by one call.
+impl Drop for GroupAhead {
+    fn drop(self) {
+        let GroupAhead {
+            come,
+            changes,
+            before,
+            after,
+        } = self;
+        drop(come);
+        drop(changes);
+        drop(before);
+        drop(after);
+    }
 }
 
 impl GroupAhead {

@@ -216,8 +216,8 @@ pub fn led_on<B: Book, L: Ledger>(
     }
 }
 
-/// What a plan is worth that has turned at these keys since the network stood for it. The network stays; what the rules
-/// weigh in that plan is left in `totals`, which is lent for its memory.
+/// What a plan is worth that has turned at these keys since the network stood for it. The network stays; `totals` is lent
+/// for its memory alone.
 pub fn foreseen<B: Book, L: Ledger>(
     alloc: Global,
     net: &mut Net,

@@ -16,8 +16,8 @@ pub struct Pair {
     second: u64,
 }
 
-/// The row that was read last, and its places where they are those of two records: the next row of two is made of it by
-/// the part that differs, and numbers are read into the memory of its parts.
+/// The row that was read last, its places where they are those of two records, and whether it shares records with the
+/// heads: the next row of two is made of it by the part that differs, and numbers are read into the memory of its parts.
 #[derive(Drop)]
 pub struct LastRow {
     alloc: Global,

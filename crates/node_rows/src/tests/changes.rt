@@ -124,15 +124,6 @@ fn gather_all_tasks(
     Ok(())
 }
 
-/// What was seen of a change.
-#[derive(Clone, Copy)]
-struct Seen {
-    gone: bool,
-    come: bool,
-    placed: bool,
-    stays: bool,
-}
-
 /// Whether the tasks that have a slot came, and no other.
 fn placed_came(changes: &[ClassChange], places: Places) -> bool
     requires { 1 < length changes.now }
@@ -156,8 +147,9 @@ fn changed_came(changes: &[ClassChange], new: Places) -> bool
         && is_only(&changes[1].taking(false).come, new.one)
 }
 
-/// The first tasks come, then they change.
-fn see_change(alloc: Global, heads: &mut Heads, changes: &mut [ClassChange]) -> Result<Seen, Fail>
+/// The first tasks come, then they change: whether just those go and come that should, and the
+/// second task stays.
+fn see_change(alloc: Global, heads: &mut Heads, changes: &mut [ClassChange]) -> Result<bool, Fail>
     requires { 1 < length changes.old }
 {
     gather_tasks(alloc, heads, BEFORE, changes)?;
@@ -165,12 +157,8 @@ fn see_change(alloc: Global, heads: &mut Heads, changes: &mut [ClassChange]) -> 
     let placed = placed_came(changes, old);
     gather_tasks(alloc, heads, AFTER, changes)?;
     let new = last_places(heads);
-    Ok(Seen {
-        gone: changed_went(changes, old),
-        come: changed_came(changes, new),
-        placed,
-        stays: new.two == old.two && count_of(heads, 1) == 2,
-    })
+    let stays = new.two == old.two && count_of(heads, 1) == 2;
+    Ok(placed && stays && changed_went(changes, old) && changed_came(changes, new))
 }
 
 /// The first tasks come, then they change, and what came is let go: whether the first tasks stand as they did.
@@ -194,12 +182,13 @@ fn none_comes(changes: &mut [ClassChange]) -> bool
     changes[1].taking(true).come.is_empty()
 }
 
-/// The first tasks come, then they change, and what came is let go; they change again, and what went is let go.
+/// The first tasks come, then they change, and what came is let go; they change again, and what
+/// went is let go: whether just those stand at each time that should.
 fn see_both_sides(
     alloc: Global,
     heads: &mut Heads,
     changes: &mut [ClassChange],
-) -> Result<Seen, Fail>
+) -> Result<bool, Fail>
     requires { 1 < length changes.old }
 {
     let come = see_come_go(alloc, heads, changes)?;
@@ -209,23 +198,19 @@ fn see_both_sides(
     let_gone_go(heads, changes);
     let last = last_places(heads);
     let gone = last.one == new.one && last.three.is_none() && count_of(heads, 1) == 1;
-    Ok(Seen {
-        gone,
-        come,
-        placed: new.one != old.one && none_comes(changes),
-        stays: last.two == old.two && last.four == new.four,
-    })
+    let stays = last.two == old.two && last.four == new.four;
+    Ok(come && gone && stays && new.one != old.one && none_comes(changes))
 }
 
-/// What is seen of new heads where the first tasks come and change.
-fn changed(alloc: Global) -> Result<Seen, Fail> {
+/// Whether new heads hold what they should where the first tasks come and change.
+fn changed(alloc: Global) -> Result<bool, Fail> {
     let mut heads = Heads::new(alloc);
     let mut changes = [ClassChange::new(alloc), ClassChange::new(alloc)];
     see_change(alloc, &mut heads, &mut changes)
 }
 
-/// What is seen of new heads where both sides of a change are let go.
-fn let_go(alloc: Global) -> Result<Seen, Fail> {
+/// Whether new heads hold what they should where both sides of a change are let go.
+fn let_go(alloc: Global) -> Result<bool, Fail> {
     let mut heads = Heads::new(alloc);
     let mut changes = [ClassChange::new(alloc), ClassChange::new(alloc)];
     see_both_sides(alloc, &mut heads, &mut changes)
@@ -233,15 +218,13 @@ fn let_go(alloc: Global) -> Result<Seen, Fail> {
 
 #[test]
 fn records_that_changed_go_and_come(rt: HostRuntime) -> Result<(), Fail> {
-    let seen = changed(rt.alloc())?;
-    assert!(rt; seen.gone && seen.come && seen.placed && seen.stays);
+    assert!(rt; changed(rt.alloc())?);
     Ok(())
 }
 
 #[test]
 fn records_that_came_or_went_are_let_go(rt: HostRuntime) -> Result<(), Fail> {
-    let seen = let_go(rt.alloc())?;
-    assert!(rt; seen.gone && seen.come && seen.placed && seen.stays);
+    assert!(rt; let_go(rt.alloc())?);
     Ok(())
 }
 
@@ -274,14 +257,12 @@ const RESOLVED: &[Resolved] = &[
 
 /// Whether a record is as it should be.
 fn is_wanted(rec: &Rec, wanted: &Resolved) -> bool {
-    let Some((field, variables, held)) = wanted.2 else {
-        return false;
-    };
-    rec.class == wanted.0
-        && rec.id == wanted.1
-        && rec.fields.get(0).copied() == field
-        && rec.planned.len() == variables
-        && held_field(rec) == held
+    let held = (
+        rec.fields.get(0).copied(),
+        rec.planned.len(),
+        held_field(rec),
+    );
+    (rec.class, rec.id, Some(held)) == *wanted
 }
 
 /// Whether the heads resolve the record of a fact as they should. It passes through the heads then.

@@ -120,18 +120,29 @@ fn are_records(row: &Row, first: u32, second: u32) -> bool {
     row.len() == 2 && is_record(row.part(0), first) && is_record(row.part(1), second)
 }
 
+/// Whether the row of the records at two places is read, which have these ids.
+fn reads_pair(
+    last: &mut LastRow,
+    heads: &Heads,
+    places: (u64, u64),
+    ids: (u32, u32),
+) -> Result<bool, Memory>
+    requires { IsReadBy heads.now.now last.old }
+    ensures { IsReadBy heads.now.now last.new }
+{
+    let cells = [Cell::Place(places.0), Cell::Place(places.1)];
+    last.read(heads, &Cells::of(&cells))?;
+    Ok(are_records(&last.row, ids.0, ids.1))
+}
+
 /// Whether a row of two records is read, and then others in which one of them is another one.
 fn reads_pairs(last: &mut LastRow, heads: &Heads, one: u64, two: u64) -> Result<bool, Memory>
     requires { IsReadBy heads.now.now last.old }
     ensures { IsReadBy heads.now.now last.new }
 {
-    let (one, two) = (Cell::Place(one), Cell::Place(two));
-    last.read(heads, &Cells::of(&[one, two]))?;
-    let are_both = are_records(&last.row, 7, 9);
-    last.read(heads, &Cells::of(&[one, one]))?;
-    let are_first = are_records(&last.row, 7, 7);
-    last.read(heads, &Cells::of(&[two, one]))?;
-    Ok(are_both && are_first && are_records(&last.row, 9, 7))
+    let are_both = reads_pair(last, heads, (one, two), (7, 9))?;
+    let are_first = reads_pair(last, heads, (one, one), (7, 7))?;
+    Ok(are_both && are_first && reads_pair(last, heads, (two, one), (9, 7))?)
 }
 
 /// Whether two numbers are read, then two others, and then one more behind them.
@@ -150,23 +161,27 @@ fn reads_numbers(last: &mut LastRow, heads: &Heads) -> Result<bool, Memory>
 }
 
 /// Whether rows are read one after the other, and pairs again after numbers and once all is forgotten.
+fn reads_all(last: &mut LastRow, heads: &Heads, one: u64, two: u64) -> Result<bool, Memory>
+    requires { IsReadBy heads.now.now last.old }
+{
+    let pairs = reads_pairs(last, heads, one, two)?;
+    let numbers = reads_numbers(last, heads)?;
+    let again = reads_pairs(last, heads, one, two)?;
+    last.forget();
+    Ok(pairs && numbers && again && reads_pairs(last, heads, one, two)?)
+}
+
+/// Whether rows are read one after the other into a new one.
 fn reads_on(alloc: Global, heads: &Heads, one: u64, two: u64) -> Result<bool, Memory> {
     let mut last = LastRow::new(alloc);
-    let pairs = reads_pairs(&mut last, heads, one, two)?;
-    let numbers = reads_numbers(&mut last, heads)?;
-    let again = reads_pairs(&mut last, heads, one, two)?;
-    last.forget();
-    Ok(pairs && numbers && again && reads_pairs(&mut last, heads, one, two)?)
+    reads_all(&mut last, heads, one, two)
 }
 
 /// Whether rows of two records are read, and of numbers.
 fn reads_rows(alloc: Global, heads: &mut Heads) -> Result<bool, Memory> {
     let one = heads.add(record(alloc, 7))?;
     let two = heads.add(record(alloc, 9))?;
-    let three = reads_three(heads, one, two)?;
-    let lone = reads_one(heads, one)?;
-    let on = reads_on(alloc, heads, one, two)?;
-    Ok(three && lone && on)
+    Ok(reads_three(heads, one, two)? && reads_one(heads, one)? && reads_on(alloc, heads, one, two)?)
 }
 
 #[test]

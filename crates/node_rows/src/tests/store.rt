@@ -139,11 +139,23 @@ fn a_store_turns_as_was_worked_by_hand(rt: HostRuntime) -> Result<(), Fail> {
 }
 
 /// What a store should hold, kept in plain lists.
-#[derive(Drop)]
 struct Plain {
     rows: Vec<(u64, u32)>,
     base: Vec<(u64, u32)>,
     in_trial: bool,
+}
+
+// Written out, so that its owners let go of it by one call.
+impl Drop for Plain {
+    fn drop(self) {
+        let Plain {
+            rows,
+            base,
+            in_trial: _,
+        } = self;
+        drop(rows);
+        drop(base);
+    }
 }
 
 /// Where the row of a number stands.

@@ -21,7 +21,6 @@ use stream_join::JoinAhead;
 const STRIDE: u64 = 7919;
 
 /// What looks note, to be lent again, and the change of which they are taken.
-#[derive(Drop)]
 struct Noted {
     join: JoinAhead,
     asked: Asked,
@@ -29,6 +28,26 @@ struct Noted {
     none: CellsDelta,
     left: CellsDelta,
     out: CellsDelta,
+}
+
+// Written out, so that its owners let go of it by one call.
+impl Drop for Noted {
+    fn drop(self) {
+        let Noted {
+            join,
+            asked,
+            group,
+            none,
+            left,
+            out,
+        } = self;
+        drop(join);
+        drop(asked);
+        drop(group);
+        drop(none);
+        drop(left);
+        drop(out);
+    }
 }
 
 /// Nothing noted yet.

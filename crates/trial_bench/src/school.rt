@@ -137,12 +137,26 @@ fn absences(alloc: Global, heads: &mut Heads, size: u32) -> Result<CellsDelta, M
 }
 
 /// A school: how many lessons it has, its records, and their rows.
-#[derive(Drop)]
 pub struct School {
     pub size: u32,
     pub heads: Heads,
     pub lessons: CellsDelta,
     pub absences: CellsDelta,
+}
+
+// Written out, so that its owners let go of it by one call.
+impl Drop for School {
+    fn drop(self) {
+        let School {
+            size: _,
+            heads,
+            lessons,
+            absences,
+        } = self;
+        drop(heads);
+        drop(lessons);
+        drop(absences);
+    }
 }
 
 /// The school of so many lessons.

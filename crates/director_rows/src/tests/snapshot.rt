@@ -8,12 +8,25 @@ use score_director::Director;
 use std::alloc::Global;
 
 /// A director's plan, how many names there are, what the plan is worth, and the rows of each rule.
-#[derive(Drop)]
 pub(super) struct Snapshot {
     plan: Plan,
     names: u32,
     score: PlanScore,
     rows: List<List<Row>>,
+}
+
+// Written out, so that its owners let go of it by one call.
+impl Drop for Snapshot {
+    fn drop(self) {
+        let Snapshot {
+            plan,
+            names: _,
+            score: _,
+            rows,
+        } = self;
+        drop(plan);
+        drop(rows);
+    }
 }
 
 /// Whether these are the same values, in the same order.

@@ -49,7 +49,6 @@ pub(super) enum Lost {
 
 /// A run over memory: the words, the bytes of the files `p`, `f` and `j`, the call that fails, and how many bytes a take of a
 /// file gives and a put takes; then the text and the status that are due.
-#[derive(Drop)]
 pub(super) struct Asked {
     pub words: &'static str,
     pub problem: Vec<u8>,
@@ -60,6 +59,27 @@ pub(super) struct Asked {
     pub put: usize,
     pub text: Vec<u8>,
     pub status: Status,
+}
+
+// Written out, so that its owners let go of it by one call.
+impl Drop for Asked {
+    fn drop(self) {
+        let Asked {
+            words: _,
+            problem,
+            feed,
+            journal,
+            lost: _,
+            take: _,
+            put: _,
+            text,
+            status: _,
+        } = self;
+        drop(problem);
+        drop(feed);
+        drop(journal);
+        drop(text);
+    }
 }
 
 /// `solve` of a problem, in which no call fails and all is taken at once. Its text is still to be said.

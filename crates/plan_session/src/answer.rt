@@ -70,7 +70,7 @@ fn respond_score<B: Book, K: Sink>(
         Ended (Says Status.Ok (score_text posed)) (K.state out.old) (K.state out.new) result }
     ensures later { LaterSink (K.state out.old) (K.state out.new) }
 {
-    match score_text(alloc, domain, problem) {
+    match score_text(alloc, domain, &problem) {
         Ok(text) => say(out, Status::Ok, &text),
         Err(_) => Status::Memory,
     }
@@ -89,7 +89,7 @@ fn respond_explanation<B: Book, K: Sink>(
         Ended (Says Status.Ok (explain_text posed)) (K.state out.old) (K.state out.new) result }
     ensures later { LaterSink (K.state out.old) (K.state out.new) }
 {
-    match explain_text(alloc, domain, problem) {
+    match explain_text(alloc, domain, &problem) {
         Ok(text) => say(out, Status::Ok, &text),
         Err(_) => Status::Memory,
     }

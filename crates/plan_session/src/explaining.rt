@@ -104,11 +104,11 @@ fn write_explained(
 pub fn explain_text<B: Book>(
     alloc: Global,
     domain: &Domain<B>,
-    problem: Problem,
+    problem: &Problem,
 ) -> Result<Vec<u8>, Memory>
-    requires { ⟦<Rules<B> as Judges>⟧.judges domain.now.rules problem.weights (sizes_of problem.plan) }
+    requires { ⟦<Rules<B> as Judges>⟧.judges domain.now.rules problem.now.weights (sizes_of problem.now.plan) }
     ensures { let makes = map (λ m. (⟦<dyn Maker as Maker>⟧ m.vtable).made m.value) domain.now.makers.items in
-        let posed = posed_in B.meaning makes (domain_view domain.now) (problem_view problem) in
+        let posed = posed_in B.meaning makes (domain_view domain.now) (problem_view problem.now) in
         IfOk result (λ text. text.items ≡ explain_text posed) }
 {
     let totals = totals_by_network(

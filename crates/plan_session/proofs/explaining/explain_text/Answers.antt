@@ -10,14 +10,14 @@ use Rattle.plan_session.proofs.explaining.explain_text.Goals as goal
 
 pub write_explained-requires-clause-rules : goal.write_explained-requires-clause-rules
 write_explained-requires-clause-rules g c =
-    few_matches g.B.Book.meaning (records_of c.args.problem.plan) c.args.domain.now.rules.defs c.as_slice.result.now _ 32 c.in_ok-totals.ensures.matches (few_rules _ _ _ _ c.args.domain.now.rules.accepted)
+    few_matches g.B.Book.meaning (records_of c.args.problem.now.plan) c.args.domain.now.rules.defs c.as_slice.result.now _ 32 c.in_ok-totals.ensures.matches (few_rules _ _ _ _ c.args.domain.now.rules.accepted)
 
 pub write_explained-requires-clause-few : goal.write_explained-requires-clause-few
 write_explained-requires-clause-few g c =
-    let plan = c.args.problem.plan in
+    let plan = c.args.problem.now.plan in
     let rules = c.args.domain.now.rules in
     few_matches_all g.B.Book.meaning (records_of plan) (sizes_of plan) rules.defs c.as_slice.result.now _ (plan_within plan)
-    (few_rows_in_range (sizes_of plan) rules.defs c.args.problem.weights rules.caps c.requires.1.range) (few_rules _ _ _ _ rules.accepted) c.in_ok-totals.ensures.matches c.in_ok-totals.totals.small
+    (few_rows_in_range (sizes_of plan) rules.defs c.args.problem.now.weights rules.caps c.requires.1.range) (few_rules _ _ _ _ rules.accepted) c.in_ok-totals.ensures.matches c.in_ok-totals.totals.small
 
 pub returns : goal.returns
 returns g c =

@@ -5,7 +5,7 @@ use Rattle.plan_session.proofs.text.score_text.Goals as goal
 
 pub sums-requires : goal.sums-requires
 sums-requires g c =
-    few_matches g.B.Book.meaning (records_of c.args.problem.plan) c.args.domain.now.rules.defs c.as_slice.result.now _ 32 c.in_ok-totals.ensures.matches (few_rules _ _ _ _ c.args.domain.now.rules.accepted)
+    few_matches g.B.Book.meaning (records_of c.args.problem.now.plan) c.args.domain.now.rules.defs c.as_slice.result.now _ 32 c.in_ok-totals.ensures.matches (few_rules _ _ _ _ c.args.domain.now.rules.accepted)
 
 pub returns : goal.returns
 returns g c =

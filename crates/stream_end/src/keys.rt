@@ -75,36 +75,3 @@ pub fn put_by_cells(
         }
     }
 }
-
-/// Puts a row's place under the keys of all of its cells, of its first and of its second one, or for want of memory
-/// under none.
-pub fn put_everywhere(
-    wholes: &mut Index,
-    firsts: &mut Index,
-    seconds: &mut Index,
-    cells: &Cells,
-    place: u64,
-) -> Result<(), Memory>
-    requires whole { finmap.get wholes.old.now place ≡ None }
-    requires first { finmap.get firsts.old.now place ≡ None }
-    requires second { finmap.get seconds.old.now place ≡ None }
-    ensures whole { let places = put_at place (row_numbers cells.now) wholes.old.now in
-        OnOk result (Becomes wholes.old wholes.new places) }
-    ensures first { let places = put_at place (first_key cells.now) firsts.old.now in
-        OnOk result (Becomes firsts.old firsts.new places) }
-    ensures second { let places = put_at place (second_key cells.now) seconds.old.now in
-        OnOk result (Becomes seconds.old seconds.new places) }
-    ensures whole_err { OnErr result (Becomes wholes.old wholes.new wholes.old.now) }
-    ensures first_err { OnErr result (Becomes firsts.old firsts.new firsts.old.now) }
-    ensures second_err { OnErr result (Becomes seconds.old seconds.new seconds.old.now) }
-{
-    let whole = cells.key();
-    wholes.put(whole.numbers(), 0, place)?;
-    match put_by_cells(firsts, seconds, cells, place) {
-        Ok(()) => Ok(()),
-        Err(fault) => {
-            wholes.kill(whole.numbers(), 0, place);
-            Err(fault)
-        }
-    }
-}
